@@ -1,0 +1,9 @@
+pub mod Bits
+pub mod Tables
+pub mod Numbers
+pub mod Clocks
+pub mod Matrix
+pub mod Inverse
+pub mod Conversions
+pub mod Laws
+pub mod TwoRounds
