@@ -1,0 +1,5 @@
+mod bytes;
+mod chains;
+mod hashes;
+
+pub use hashes::hash;
