@@ -102,6 +102,29 @@ impl BoxCause {
             _ => 3,
         }
     }
+
+    // What the cause means, in words.
+    pub fn words(self) -> &'static str {
+        match self {
+            BoxCause::Mode(ModeCause::Length) => "not of its stated length",
+            BoxCause::Shelf(ShelfCause::Length) => "not of its stated length",
+            BoxCause::Length => "not of its stated length",
+            BoxCause::Mode(ModeCause::Limit) => "over its limit",
+            BoxCause::Limit => "over its limit",
+            BoxCause::Mode(ModeCause::Parameter) =>
+                "separator or count of super-rounds out of range",
+            BoxCause::Shelf(ShelfCause::Outside) => "no such place",
+            BoxCause::Shelf(ShelfCause::Shut) => "the place is shut",
+            BoxCause::NotOut => "the number is not out in this box",
+            BoxCause::UsedUp => "the numbers are used up",
+            BoxCause::SixteenOut => "sixteen numbers are out",
+            BoxCause::Empty => "the place is empty",
+            BoxCause::Filling => "length above 928, or filling not zero",
+            BoxCause::Mode(ModeCause::Tag) => "the tag differs",
+            BoxCause::Mode(ModeCause::Slip) => "another nonce or no padding",
+            BoxCause::Shelf(ShelfCause::Unfit) => "the plate is unfit",
+        }
+    }
 }
 
 impl ModeFault {
@@ -163,5 +186,33 @@ pub impl From<ShelfFault> for BoxFault as BoxFaultFromShelf {
             cause: BoxCause::Shelf(f.cause),
             place: f.place,
         }
+    }
+}
+
+// `refused with 4, layer 2, place 7: no such place`
+pub impl fmt::Display for BoxFault as BoxFaultDisplay {
+    fn fmt<W: fmt::Write>(&self, f: &mut fmt::Formatter<W>) -> fmt::Result {
+        let number = self.number();
+        let layer = self.layer();
+        write!(f, "refused with {number}, layer {layer}")?;
+        if let Some(place) = self.place {
+            write!(f, ", place {place}")?;
+        }
+        let words = self.cause.words();
+        write!(f, ": {words}")
+    }
+}
+
+pub impl fmt::Display for ModeFault as ModeFaultDisplay {
+    fn fmt<W: fmt::Write>(&self, f: &mut fmt::Formatter<W>) -> fmt::Result {
+        let raised: BoxFault = (*self).into();
+        write!(f, "{raised}")
+    }
+}
+
+pub impl fmt::Display for ShelfFault as ShelfFaultDisplay {
+    fn fmt<W: fmt::Write>(&self, f: &mut fmt::Formatter<W>) -> fmt::Result {
+        let raised: BoxFault = (*self).into();
+        write!(f, "{raised}")
     }
 }
