@@ -104,7 +104,7 @@ impl BoxCause {
     }
 
     // What the cause means, in words.
-    pub fn words(self) -> &'static str {
+    fn words(self) -> &'static str {
         match self {
             BoxCause::Mode(ModeCause::Length) => "not of its stated length",
             BoxCause::Shelf(ShelfCause::Length) => "not of its stated length",

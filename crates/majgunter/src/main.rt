@@ -52,6 +52,10 @@ fn run(rt: &LibcRuntime) -> io::Result<bool> {
 
 // A line for each file; one that has none gets its reason on standard error, and the others are still done.
 fn hash_files(rt: &LibcRuntime, files: Args) -> io::Result<bool> {
+    if files.len() == 0 {
+        eprintln!(rt, "{USAGE}")?;
+        return Ok(false);
+    }
     let mut all = true;
     for file in files {
         let name = file.as_str();

@@ -41,7 +41,7 @@ pub impl From<io::Error> for Problem as ProblemFromIo {
 pub impl fmt::Display for Problem as ProblemDisplay {
     fn fmt<W: fmt::Write>(&self, f: &mut fmt::Formatter<W>) -> fmt::Result {
         match self {
-            Problem::Refused(fault) => write!(f, "{fault}"),
+            Problem::Refused(fault) => write!(f, "{fault}; a hash takes at most 65,536 bytes"),
             Problem::Memory => write!(f, "no memory"),
             Problem::Unread(e) => write!(f, "{e}"),
         }

@@ -1,0 +1,3 @@
+mod Nibbles
+mod Loads
+mod Steps
