@@ -238,7 +238,7 @@ module _ (a b c d : ℕ) (ha : a < 16) (hb : b < 16) (hc : c < 16) (hd : d < 16)
       (bitXor (α (α (bitXor c d))) (bitXor (α d) (bitXor a b)))
       (bitXor (bitXor (α d) (bitXor a b)) (bitXor (α (α (bitXor a b))) (bitXor (α b) (bitXor c d))))
       ≡ at (a ∷ b ∷ c ∷ d ∷ []) y)
-      (simp (cancel, e1, e2, α-undone b hb)) (simp (cancel, e1, e2, α-undone b hb)) (simp (cancel, e1, e2, α-undone d hd)) (simp (cancel, e1, e2, α-undone d hd)) y h)
+      (simp (cancel, e1, e2, α-undone b hb)) (simp (cancel, e2, α-undone b hb)) (simp (cancel, e1, e2, α-undone d hd)) (simp (cancel, e1, α-undone d hd)) y h)
 
   -- back and there: x1 and so on are what the way back makes
   M⁻¹-lt : (y : ℕ) → y < 4 → M⁻¹-row y a b c d < 16
