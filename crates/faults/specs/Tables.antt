@@ -13,3 +13,8 @@ Table Cause = List (Type 0 × Cause)
 abbrev pub By : {Cause : Type 0} → Table Cause → (Cause → Type 0) → Type 0 → Type 0
 By [] refused done = done
 By (row ∷ rows) refused done = (row .0 → refused (row .1)) × (Not (row .0) → By rows refused done)
+
+-- no row applies
+abbrev pub Clear : {Cause : Type 0} → Table Cause → Type 0
+Clear [] = Unit {0}
+Clear (row ∷ rows) = Not (row .0) × Clear rows

@@ -1,7 +1,9 @@
 ghost use mathlib.Core.Path.{_≡_};
+ghost use mathlib.Core.Bool.{true};
 ghost use Prim.Native.Nat.{_+_, _*_, _≤_};
+ghost use lib.Dec.{T};
 ghost use lib.ListN.{length};
-ghost use Rattle.modes.specs.Bytes.{padded, xor as xored, block-at, tail-of};
+ghost use Rattle.modes.specs.Bytes.{padded, xor as xored, zeros, block-at, tail-of, big-endian as big-endian-of};
 
 pub(crate) fn xor(a: &[u8; 32], b: &[u8; 32]) -> [u8; 32]
     ensures { λ r. ⌜ r ≡ xored (now (a .entry)) (now (b .entry)) ⌝ }
@@ -11,6 +13,18 @@ pub(crate) fn xor(a: &[u8; 32], b: &[u8; 32]) -> [u8; 32]
         out[i] = a[i] ^ b[i];
     }
     out
+}
+
+// Whether two blocks are the same. All bytes are looked at, also after a difference.
+pub(crate) fn same(a: &[u8; 32], b: &[u8; 32]) -> bool
+    ensures yes { λ r. ⌜ (T r → now (a .entry) ≡ now (b .entry)) ⌝ }
+    ensures no { λ r. ⌜ (now (a .entry) ≡ now (b .entry) → T r) ⌝ }
+{
+    let mut difference = 0;
+    for i in 0..32 {
+        difference |= a[i] ^ b[i];
+    }
+    difference == 0
 }
 
 // The byte 0x80 and zeros after at most 31 bytes.
@@ -25,8 +39,17 @@ pub(crate) fn pad(s: &[u8]) -> [u8; 32]
     out
 }
 
+// A number at the end of a block.
+pub(crate) fn big_endian(n: u64) -> [u8; 32]
+    ensures { λ r. ⌜ r ≡ big-endian-of 32 n ⌝ }
+{
+    let mut out = [0; 32];
+    out[24..32].copy_from_slice(&n.to_be_bytes());
+    out
+}
+
 // Thirty-two bytes by value.
-fn block_of(s: &[u8]) -> [u8; 32]
+pub(crate) fn block_of(s: &[u8]) -> [u8; 32]
     requires { ⌜ length (now s) ≡ 32 ⌝ }
     ensures { λ r. ⌜ r ≡ now (s .entry) ⌝ }
 {
@@ -47,4 +70,10 @@ pub(crate) fn padded_tail(s: &[u8]) -> [u8; 32]
 {
     let n = s.len() / 32;
     pad(&s[32 * n..])
+}
+
+pub(crate) fn wipe(s: &mut [u8])
+    ensures { λ _. ⌜ now (s .exit) ≡ zeros (length (now (s .entry))) ⌝ }
+{
+    s.fill(0);
 }

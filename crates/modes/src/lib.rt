@@ -1,5 +1,12 @@
 mod bytes;
+mod cascade;
 mod chains;
+mod counters;
 mod hashes;
 
+pub use cascade::open;
+pub use cascade::seal;
+pub use chains::DataChain;
+pub use chains::TextChain;
+pub use counters::CounterBlock;
 pub use hashes::hash;
