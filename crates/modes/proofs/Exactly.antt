@@ -29,7 +29,7 @@ stable-same a b n =
       | inr e ↦ absurd (n (λ q. true≢false (sym (sameBytes-decides a b .1 q) ∙ e)))
     ]
 
-never-both : {X : Type 0} (x : X) (f : ModeFault) → _≡_ {A = Result X ModeFault} (Ok x) (Err f) → ⊥
+pub never-both : {X : Type 0} (x : X) (f : ModeFault) → _≡_ {A = Result X ModeFault} (Ok x) (Err f) → ⊥
 never-both x f h = let z : _≡_ {A = ℕ} 0 1 = cc in omega arith
 
 module _ (f : Block-function) (key nonce associated text sign : List ℕ) where

@@ -5,3 +5,5 @@ pub mod Agreeing
 pub mod Streams
 pub mod Refusing
 pub mod Exactly
+pub mod Paddings
+pub mod Shortly

@@ -4,3 +4,4 @@ pub mod Hash
 pub mod Counters
 pub mod Cascade
 pub mod Exact
+pub mod Short

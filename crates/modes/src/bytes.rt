@@ -21,8 +21,8 @@ pub(crate) fn same(a: &[u8; 32], b: &[u8; 32]) -> bool
     ensures no { λ r. ⌜ (now (a .entry) ≡ now (b .entry) → T r) ⌝ }
 {
     let mut difference = 0;
-    for i in 0..32 {
-        difference |= a[i] ^ b[i];
+    for k in 0..32 {
+        difference |= a[k] ^ b[k];
     }
     difference == 0
 }

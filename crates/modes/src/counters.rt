@@ -27,12 +27,6 @@ impl CounterBlock {
             bytes: counted(nonce, counter),
         })
     }
-
-    pub fn bytes(&self) -> &[u8; 32]
-        ensures { λ r. ⌜ now r ≡ now (self .entry) .bytes ⌝ }
-    {
-        &self.bytes
-    }
 }
 
 pub(crate) fn counted(nonce: &[u8], counter: u64) -> [u8; 32]

@@ -3,6 +3,7 @@ mod cascade;
 mod chains;
 mod counters;
 mod hashes;
+mod shorts;
 
 pub use cascade::open;
 pub use cascade::seal;
@@ -10,3 +11,5 @@ pub use chains::DataChain;
 pub use chains::TextChain;
 pub use counters::CounterBlock;
 pub use hashes::hash;
+pub use shorts::open_short;
+pub use shorts::seal_short;

@@ -1,5 +1,5 @@
 use Rattle.modes.proofs.Agreeing.{Alike}
 use Rattle.modes.proofs.bytes.same.Given as given
 
-abbrev pub Inv-loop-i : given.InvT-loop-i
-Inv-loop-i l = Alike (l .a) (l .b) (l .i) (l .difference)
+abbrev pub Inv-loop-k : given.InvT-loop-k
+Inv-loop-k l = Alike (l .a) (l .b) (l .k) (l .difference)
