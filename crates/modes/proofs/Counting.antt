@@ -44,12 +44,12 @@ one-byte : (b : ℕ) → b < 256 → Small (b ∷ [])
 one-byte b h zero = h
 one-byte b h (suc i) = omega arith
 
-big-endian-bytes : (n c : ℕ) → Small (big-endian n c)
+pub big-endian-bytes : (n c : ℕ) → Small (big-endian n c)
 unfolding big-endian
 big-endian-bytes zero c = λ i. omega arith
 big-endian-bytes (suc n) c = append-bytes (big-endian n (c / 256)) (c % 256 ∷ []) (big-endian-bytes n (c / 256)) (one-byte (c % 256) (omega arith))
 
-length-big-endian : (n c : ℕ) → length (big-endian n c) ≡ n
+pub length-big-endian : (n c : ℕ) → length (big-endian n c) ≡ n
 unfolding big-endian
 length-big-endian zero c = refl
 length-big-endian (suc n) c = length-append (big-endian n (c / 256)) (c % 256 ∷ []) ∙ omega (arith, length-big-endian n (c / 256))

@@ -3,6 +3,7 @@ pub mod Linking
 pub mod Counting
 pub mod Agreeing
 pub mod Streams
+pub mod Blocks
 pub mod Refusing
 pub mod Exactly
 pub mod Paddings

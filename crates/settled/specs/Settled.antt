@@ -1,12 +1,15 @@
 -- Cases that are settled: what the definitions must give.
 use mathlib.Core.Path.{_≡_}
-use mathlib.Core.List.{List, [], _∷_, map}
+use mathlib.Core.List.{List, [], _∷_, _++_, map}
 use mathlib.Core.Bool.{cond}
 use Prim.Native.Nat.{ℕ}
 use lib.Dec.{eqb}
+use lib.ListN.{length}
 use Rattle.saturnin.specs.Cube.{Cube, at, table, cube, word}
 use Rattle.saturnin.specs.Layers.{σ₀, σ₁, SR, α, M-row}
 use Rattle.saturnin.specs.Rounds.{start, clock, rotated}
+use Rattle.modes.specs.Bytes.{zeros}
+use Rattle.modes.specs.Counters.{counter-block}
 
 -- the cube whose nibbles are numbered: what stands at i is where nibble i came from
 abbrev pub numbered : Cube
@@ -33,3 +36,6 @@ pub record Settled : Type 0 where
   -- nibble 50 of the rotated key is key nibble 6
   pub key : at (rotated numbered) 50 ≡ 6
   pub word-0 : word two-bytes 0 ≡ 0x00020001
+  -- counter 1 with a nonce of 16 bytes, and with one of 20
+  pub counter-16 : (nonce : List ℕ) → length nonce ≡ 16 → counter-block nonce 1 ≡ nonce ++ (0x80 ∷ (zeros 14 ++ (0x01 ∷ [])))
+  pub counter-20 : (nonce : List ℕ) → length nonce ≡ 20 → counter-block nonce 1 ≡ nonce ++ (0x80 ∷ (zeros 10 ++ (0x01 ∷ [])))

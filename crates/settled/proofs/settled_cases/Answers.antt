@@ -3,6 +3,7 @@ use Rattle.saturnin.specs.Bits.{bit, nibble}
 use Rattle.saturnin.specs.Cube.{table, register, word}
 use Rattle.saturnin.specs.Layers.{σ₀, σ₁, SR-slice, SR-sheet, SR, α, ⊕, M-row}
 use Rattle.saturnin.specs.Rounds.{clock, rotated}
+use Rattle.settled.proofs.Counters.{counter-16, counter-20}
 use Rattle.settled.proofs.settled_cases.Needs as need
 
 pub returns : need.returns
@@ -20,4 +21,6 @@ returns c = record {
   shift-3 = refl;
   key = refl;
   word-0 = refl;
+  counter-16 = counter-16;
+  counter-20 = counter-20;
 }
