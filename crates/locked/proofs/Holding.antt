@@ -96,8 +96,13 @@ module _ (f : Block-function) (gives : Gives-blocks f) (key file out : List ℕ)
   this-word word opens =
       let rest = opens .1 (λ k. k (kl, simp length-drop (omega arith), simp (length-take, length-drop) (omega arith))) .1 (λ k. k (simp (length-take, length-drop) (omega arith), lit≤ tt, simp length-drop (omega arith))) in
       let held : sign-of f key file ≡ tag f key (nonce-of f key file) magic (text-of f key file) → (answer ≡ Ok tt) × Holds f key file out′ =
-      λ e. let d = rest .1 (λ k. k e) in (d .0, holds f key file (length out) out′ fl ob word e (d .1)) in
-      (λ h. absurd (h (kl, fl)), λ n. (λ h. absurd (omega arith), λ m. (
-        λ no. rest .0 (λ e. no (out′, held e .1)),
-        λ nn. held (stable-same _ _ (λ q. nn (λ w. q (held-sign f key file gives (kl, kb) fb (w .0) (w .1))))),
-      )))
+      λ e. let d = rest .1 (λ k. k e) in (d .0, holds f key file (length out) out′ fl ob word e (d .1)) in (
+        λ h. absurd (h (kl, fl)),
+        λ n. (
+          λ h. absurd (omega arith),
+          λ m. (
+            λ no. rest .0 (λ e. no (out′, held e .1)),
+            λ nn. held (stable-same _ _ (λ q. nn (λ w. q (held-sign f key file gives (kl, kb) fb (w .0) (w .1))))),
+          ),
+        ),
+      )

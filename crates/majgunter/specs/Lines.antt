@@ -11,7 +11,7 @@ use Rattle.hex.specs.Hex.{spelled}
 use Rattle.modes.specs.Hash.{hash}
 use Rattle.saturnin.specs.Rounds.{forward}
 use Rattle.majgunter.specs.declared.problems.Problem.{Problem}
-use Rattle.majgunter.specs.declared.problems.Problem.the-variants.{Refused, Memory, Unread}
+use Rattle.majgunter.specs.declared.problems.Problem.the-variants.{Refused, Memory, NoDigits, Unread}
 
 -- the digest in hexadecimal digits, two blanks and the name
 abbrev pub digest-line : (name bytes : List ℕ) → List ℕ
@@ -22,4 +22,5 @@ abbrev pub Answers : {Text : Type 0} → (Text → List ℕ) → (name bytes : L
 Answers text name bytes (Ok line) = (length bytes ≤ 65536) × (text line ≡ digest-line name bytes)
 Answers text name bytes (Err (Refused fault)) = (65536 < length bytes) × (fault ≡ record { cause = Limit })
 Answers text name bytes (Err Memory) = Unit {0}
+Answers text name bytes (Err NoDigits) = ⊥
 Answers text name bytes (Err (Unread e)) = ⊥

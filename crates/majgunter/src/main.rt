@@ -1,17 +1,22 @@
+mod commands;
 mod digests;
+mod files;
+mod locks;
 mod problems;
+#[cfg(test)]
+mod tests;
 
+use commands::Command;
+use commands::USAGE;
 use digests::digest_line;
+use files::read_limited;
+use locks::lock_file;
+use locks::unlock_file;
 use problems::Problem;
 use problems::ProblemDisplay;
 use problems::ProblemFromIo;
 use std::env;
-use std::env::Args;
-use std::fs::File;
 use std::io;
-use std::io::Read;
-
-const USAGE: &str = "usage: majgunter hash FILE...    print the Saturnin-Hash of each file";
 
 // Something was refused or could not be read; what it was is on standard error.
 #[derive(Drop)]
@@ -30,20 +35,30 @@ fn main(rt: LibcRuntime) -> Result<(), Failed> {
 
 // Whether all was done.
 fn run(rt: &LibcRuntime) -> io::Result<bool> {
-    let mut args = env::args(rt)?;
-    let _program = args.next();
-    let Some(command) = args.next() else {
-        eprintln!(rt, "{USAGE}")?;
-        return Ok(false);
-    };
-    match command.as_str() {
-        "hash" => hash_files(rt, args),
-        "help" | "--help" => {
+    let words: Vec<String> = env::args(rt)?.skip(1).collect(rt.alloc())?;
+    match words.as_slice() {
+        [first] if first.as_str() == "help" || first.as_str() == "--help" => {
             println!(rt, "{USAGE}")?;
             Ok(true)
         }
+        [first, files @ ..] if first.as_str() == "hash" && !files.is_empty() => {
+            hash_files(rt, files)
+        }
+        [first, key, from, to] if first.as_str() == "lock" => {
+            let done = lock_file(rt, None, key.as_str(), from.as_str(), to.as_str());
+            told(rt, Command::Lock, from.as_str(), done)
+        }
+        [first, option, nonce, key, from, to]
+            if first.as_str() == "lock" && option.as_str() == "--nonce" => {
+            let nonce = Some(nonce.as_str());
+            let done = lock_file(rt, nonce, key.as_str(), from.as_str(), to.as_str());
+            told(rt, Command::Lock, from.as_str(), done)
+        }
+        [first, key, from, to] if first.as_str() == "unlock" => {
+            let done = unlock_file(rt, key.as_str(), from.as_str(), to.as_str());
+            told(rt, Command::Unlock, from.as_str(), done)
+        }
         _ => {
-            eprintln!(rt, "majgunter: no command {command}")?;
             eprintln!(rt, "{USAGE}")?;
             Ok(false)
         }
@@ -51,33 +66,34 @@ fn run(rt: &LibcRuntime) -> io::Result<bool> {
 }
 
 // A line for each file; one that has none gets its reason on standard error, and the others are still done.
-fn hash_files(rt: &LibcRuntime, files: Args) -> io::Result<bool> {
-    if files.len() == 0 {
-        eprintln!(rt, "{USAGE}")?;
-        return Ok(false);
-    }
+fn hash_files(rt: &LibcRuntime, files: &[String]) -> io::Result<bool> {
     let mut all = true;
     for file in files {
         let name = file.as_str();
         match hash_file(rt, name) {
             Ok(line) => println!(rt, "{line}")?,
-            Err(problem) => {
-                eprintln!(rt, "majgunter: {name}: {problem}")?;
-                all = false;
-            }
+            Err(problem) => all = told(rt, Command::Hash, name, Err(problem))?,
         }
     }
     Ok(all)
 }
 
 fn hash_file(rt: &LibcRuntime, name: &str) -> Result<String, Problem> {
-    let bytes = read_limited(rt, name)?;
+    let bytes = read_limited(rt, name, 65_537)?;
     digest_line(rt.alloc(), name, &bytes)
 }
 
-// At most one byte more than a hash takes, however long the file is.
-fn read_limited(rt: &LibcRuntime, name: &str) -> io::Result<Vec<u8>> {
-    let mut bytes = Vec::new(rt.alloc());
-    File::open(rt, name)?.take(65_537).read_to_end(&mut bytes)?;
-    Ok(bytes)
+// Whether a command was done; if not, why not, on standard error.
+fn told(
+    rt: &LibcRuntime,
+    command: Command,
+    name: &str,
+    done: Result<(), Problem>,
+) -> io::Result<bool> {
+    let Err(problem) = done else {
+        return Ok(true);
+    };
+    let hint = command.hint(&problem);
+    eprintln!(rt, "majgunter: {name}: {problem}{hint}")?;
+    Ok(false)
 }

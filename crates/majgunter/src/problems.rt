@@ -6,11 +6,12 @@ use std::alloc::AllocError;
 use std::fmt;
 use std::io;
 
-// Why a file has no line of its own.
+// Why a command is not done.
 #[derive(Drop)]
 pub enum Problem {
     Refused(ModeFault),
     Memory,
+    NoDigits,
     Unread(io::Error),
 }
 
@@ -41,8 +42,9 @@ pub impl From<io::Error> for Problem as ProblemFromIo {
 pub impl fmt::Display for Problem as ProblemDisplay {
     fn fmt<W: fmt::Write>(&self, f: &mut fmt::Formatter<W>) -> fmt::Result {
         match self {
-            Problem::Refused(fault) => write!(f, "{fault}; a hash takes at most 65,536 bytes"),
+            Problem::Refused(fault) => write!(f, "{fault}"),
             Problem::Memory => write!(f, "no memory"),
+            Problem::NoDigits => write!(f, "the nonce is not in hexadecimal digits"),
             Problem::Unread(e) => write!(f, "{e}"),
         }
     }

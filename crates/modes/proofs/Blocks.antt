@@ -23,11 +23,13 @@ drop-bytes xs n b i = omega (arith, getD-drop n xs i 0, b (n + i))
 
 xor-bytes : (a b : List ℕ) → Bytes 32 a → Bytes 32 b → Bytes 32 (xor a b)
 xor-bytes a b p q =
-    let l : length (xor a b) ≡ 32 = length-xor a b (p .0 ∙ sym (q .0)) ∙ p .0 in
-    (l, λ i. elim (cases-lt i 32) [
-      | inl h ↦ rw (getD-xor a b i (omega (arith, p .0)) (omega (arith, q .0))) (xor-lt 8 (getD a i 0) (getD b i 0) (p .1 i) (q .1 i))
-      | inr h ↦ rw (getD-past (xor a b) i 0 (omega (arith, l))) (lit< tt)
-    ])
+    let l : length (xor a b) ≡ 32 = length-xor a b (p .0 ∙ sym (q .0)) ∙ p .0 in (
+      l,
+      λ i. elim (cases-lt i 32) [
+        | inl h ↦ rw (getD-xor a b i (omega (arith, p .0)) (omega (arith, q .0))) (xor-lt 8 (getD a i 0) (getD b i 0) (p .1 i) (q .1 i))
+        | inr h ↦ rw (getD-past (xor a b) i 0 (omega (arith, l))) (lit< tt)
+      ],
+    )
 
 padded-block : (m : List ℕ) → length m ≤ 31 → Small m → Bytes 32 (padded 32 m)
 padded-block m h b = (length-padded 32 m (omega arith), padded-bytes 32 m b)

@@ -29,8 +29,8 @@ returns g c =
         λ m. (
           refl,
           laid-out magic nonce (c .seal .last .tag) (c .seal .last .out) (take 56 file) _ _ _ _ refl (ok .1) tag-long head (put-end 56 file (c .seal .last .out) long)
-          (c .paste .ensures) (c .paste-2 .ensures) (c .paste-3 .ensures)
-          ∙ ap₂ (λ s t. magic ++ (nonce ++ (s ++ t))) (d .2) (d .1),
+              (c .paste .ensures) (c .paste-2 .ensures) (c .paste-3 .ensures)
+              ∙ ap₂ (λ s t. magic ++ (nonce ++ (s ++ t))) (d .2) (d .1),
         ),
       ),
     )
