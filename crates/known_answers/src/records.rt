@@ -1,13 +1,26 @@
 use std::alloc::Global;
 use std::error::AnyError;
 
-// What a value is left out of a record.
+// What is to be done with the text of a record.
 #[derive(Clone, Copy)]
-enum Wanted {
+pub(crate) enum Task {
     Nothing,
-    Ciphertext,
+    Encrypt,
+    Decrypt,
+    Hash,
+    Seal,
+    Open,
+    SealShort,
+    OpenShort,
+}
+
+// Which value of a record its text is.
+#[derive(Clone, Copy)]
+enum Given {
+    Nothing,
     Plaintext,
-    Digest,
+    Ciphertext,
+    Message,
 }
 
 // The lines `NAME = VALUE` of a record up to a blank line. The text is what stands under PT, CT or Msg.
@@ -17,8 +30,10 @@ pub(crate) struct Record {
     pub(crate) key: Vec<u8>,
     pub(crate) r: u8,
     pub(crate) d: u8,
+    pub(crate) nonce: Option<Vec<u8>>,
+    pub(crate) associated: Option<Vec<u8>>,
     pub(crate) text: Vec<u8>,
-    wanted: Wanted,
+    given: Given,
 }
 
 impl Record {
@@ -28,18 +43,34 @@ impl Record {
             key: Vec::new(heap),
             r: 0,
             d: 0,
+            nonce: None,
+            associated: None,
             text: Vec::new(heap),
-            wanted: Wanted::Nothing,
+            given: Given::Nothing,
         }
     }
 
-    // The name of the value that is left out, or no name where nothing is known yet.
+    // A record with associated data is one of CTR-Cascade, one with only a nonce of Short.
+    pub(crate) fn task(&self) -> Task {
+        match (self.given, self.nonce.is_some(), self.associated.is_some()) {
+            (Given::Nothing, _, _) => Task::Nothing,
+            (Given::Message, _, _) => Task::Hash,
+            (Given::Plaintext, _, true) => Task::Seal,
+            (Given::Ciphertext, _, true) => Task::Open,
+            (Given::Plaintext, true, false) => Task::SealShort,
+            (Given::Ciphertext, true, false) => Task::OpenShort,
+            (Given::Plaintext, false, false) => Task::Encrypt,
+            (Given::Ciphertext, false, false) => Task::Decrypt,
+        }
+    }
+
+    // The name of the value that is left out.
     pub(crate) fn wanted(&self) -> &'static str {
-        match self.wanted {
-            Wanted::Nothing => "",
-            Wanted::Ciphertext => "CT",
-            Wanted::Plaintext => "PT",
-            Wanted::Digest => "MD",
+        match self.given {
+            Given::Nothing => "",
+            Given::Plaintext => "CT",
+            Given::Ciphertext => "PT",
+            Given::Message => "MD",
         }
     }
 
@@ -53,17 +84,19 @@ impl Record {
             "R" => self.r = value.parse::<u8>()?,
             "D" => self.d = value.parse::<u8>()?,
             "Key" => self.key = bytes(heap, value)?,
-            "PT" => self.fill(bytes(heap, value)?, Wanted::Ciphertext),
-            "CT" => self.fill(bytes(heap, value)?, Wanted::Plaintext),
-            "Msg" => self.fill(bytes(heap, value)?, Wanted::Digest),
+            "Nonce" => self.nonce = Some(bytes(heap, value)?),
+            "AD" => self.associated = Some(bytes(heap, value)?),
+            "PT" => self.fill(bytes(heap, value)?, Given::Plaintext),
+            "CT" => self.fill(bytes(heap, value)?, Given::Ciphertext),
+            "Msg" => self.fill(bytes(heap, value)?, Given::Message),
             _ => return Err("a line has an unknown name".into()),
         }
         Ok(())
     }
 
-    fn fill(&mut self, text: Vec<u8>, wanted: Wanted) {
+    fn fill(&mut self, text: Vec<u8>, given: Given) {
         self.text = text;
-        self.wanted = wanted;
+        self.given = given;
     }
 }
 
