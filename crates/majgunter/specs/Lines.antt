@@ -11,7 +11,7 @@ use Rattle.hex.specs.Hex.{spelled}
 use Rattle.modes.specs.Hash.{hash}
 use Rattle.saturnin.specs.Rounds.{forward}
 use Rattle.majgunter.specs.declared.problems.Problem.{Problem}
-use Rattle.majgunter.specs.declared.problems.Problem.the-variants.{Refused, Memory, NoDigits, Unread}
+use Rattle.majgunter.specs.declared.problems.Problem.the-variants.{Refused, Memory, NoDigits, Unread, KeyUnread, Unwritten}
 
 -- the digest in hexadecimal digits, two blanks and the name
 abbrev pub digest-line : (name bytes : List ℕ) → List ℕ
@@ -24,3 +24,5 @@ Answers text name bytes (Err (Refused fault)) = (65536 < length bytes) × (fault
 Answers text name bytes (Err Memory) = Unit {0}
 Answers text name bytes (Err NoDigits) = ⊥
 Answers text name bytes (Err (Unread e)) = ⊥
+Answers text name bytes (Err (KeyUnread e)) = ⊥
+Answers text name bytes (Err (Unwritten e)) = ⊥

@@ -15,7 +15,7 @@ pub(crate) fn lock_file(
     from: &str,
     to: &str,
 ) -> Result<(), Problem> {
-    let key = read_limited(rt, key, 33)?;
+    let key = read_key(rt, key)?;
     let message = read_limited(rt, from, 65_537)?;
     let nonce = match nonce {
         None => read_limited(rt, "/dev/urandom", 20)?,
@@ -23,8 +23,7 @@ pub(crate) fn lock_file(
     };
     let mut file = vec![in rt.alloc(); 0; message.len().saturating_add(56)]?;
     locked::lock(&WordForm, &key, &nonce, &message, file.as_mut_slice())?;
-    write_whole(rt, to, &file)?;
-    Ok(())
+    put(rt, to, &file)
 }
 
 fn given_nonce(rt: &LibcRuntime, digits: &str) -> Result<Vec<u8>, Problem> {
@@ -40,10 +39,23 @@ pub(crate) fn unlock_file(
     from: &str,
     to: &str,
 ) -> Result<(), Problem> {
-    let key = read_limited(rt, key, 33)?;
+    let key = read_key(rt, key)?;
     let file = read_limited(rt, from, 65_593)?;
     let mut message = vec![in rt.alloc(); 0; file.len().saturating_sub(56)]?;
     locked::unlock(&WordForm, &key, &file, message.as_mut_slice())?;
-    write_whole(rt, to, &message)?;
-    Ok(())
+    put(rt, to, &message)
+}
+
+fn read_key(rt: &LibcRuntime, name: &str) -> Result<Vec<u8>, Problem> {
+    match read_limited(rt, name, 33) {
+        Ok(key) => Ok(key),
+        Err(e) => Err(Problem::KeyUnread(e)),
+    }
+}
+
+fn put(rt: &LibcRuntime, name: &str, bytes: &[u8]) -> Result<(), Problem> {
+    match write_whole(rt, name, bytes) {
+        Ok(()) => Ok(()),
+        Err(e) => Err(Problem::Unwritten(e)),
+    }
 }

@@ -13,6 +13,8 @@ pub enum Problem {
     Memory,
     NoDigits,
     Unread(io::Error),
+    KeyUnread(io::Error),
+    Unwritten(io::Error),
 }
 
 pub impl From<ModeFault> for Problem as ProblemFromFault {
@@ -46,6 +48,8 @@ pub impl fmt::Display for Problem as ProblemDisplay {
             Problem::Memory => write!(f, "no memory"),
             Problem::NoDigits => write!(f, "the nonce is not in hexadecimal digits"),
             Problem::Unread(e) => write!(f, "{e}"),
+            Problem::KeyUnread(e) => write!(f, "the key file: {e}"),
+            Problem::Unwritten(e) => write!(f, "the file to write: {e}"),
         }
     }
 }
