@@ -21,6 +21,11 @@ module _ {Cause : Type 0} (refused : Cause → Type 0) (done : Type 0) where
       let h : Clear rows × done = done-when rows f (b .1 not) in
       ((not, h .0), h .1)
 
+-- what follows from a refusal and from being done follows by the same table
+pub by-follows : {Cause : Type 0} {refused refused′ : Cause → Type 0} {done done′ : Type 0} (rows : Table Cause) → ((c : Cause) → refused c → refused′ c) → (done → done′) → By rows refused done → By rows refused′ done′
+by-follows [] f g b = g b
+by-follows (row ∷ rows) f g b = (λ r. f (row .1) (b .0 r), λ n. by-follows rows f g (b .1 n))
+
 -- facts of numbers that are not refused hold
 pub stable-eq : (a b : ℕ) → Not (Not (a ≡ b)) → a ≡ b
 stable-eq a b n = elim (cases-eq a b) [ inl e ↦ e | inr m ↦ absurd (n m) ]

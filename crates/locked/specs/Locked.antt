@@ -42,17 +42,18 @@ pub record Holds (f : Block-function) (key file message : List ℕ) : Type 0 whe
   pub bytes : (i : ℕ) → at message i < 256
   pub file-is : file ≡ locked f key nonce message
 
--- a file without a message is damaged, locked by another key, or no locked file
-abbrev pub unlock-table : Block-function → (key file out : List ℕ) → Table ModeCause
+-- key, file, and the buffer for the message by its length; a file without a message is damaged, locked by another key, or no
+-- locked file
+abbrev pub unlock-table : Block-function → (key file : List ℕ) (out : ℕ) → Table ModeCause
 unlock-table f key file out =
-    (Not ((length key ≡ 32) × (length file ≡ 56 + length out)), Length)
-    ∷ (65536 < length out, Limit)
+    (Not ((length key ≡ 32) × (length file ≡ 56 + out)), Length)
+    ∷ (65536 < out, Limit)
     ∷ (Not ((message : List ℕ) × Holds f key file message), Tag)
     ∷ []
 
 -- an unlocking, by its answer and by what the buffer for the message holds after it
 abbrev pub Unlocks : Block-function → (key file out : List ℕ) → Result (Unit {0}) ModeFault → (out′ : List ℕ) → Type 0
 Unlocks f key file out answer out′ =
-    By (unlock-table f key file out)
+    By (unlock-table f key file (length out))
     (λ cause. (answer ≡ Err (record { cause = cause })) × (out′ ≡ left cause out))
     ((answer ≡ Ok tt) × Holds f key file out′)
