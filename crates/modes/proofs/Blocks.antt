@@ -54,7 +54,7 @@ module _ (f : Block-function) (gives : Gives-blocks f) where
         link-bytes _ _ (links-bytes t bytes n p b (omega arith)) (simp (length-take, length-drop) (omega arith), take-bytes (drop (32 * n) bytes) 32 (drop-bytes bytes (32 * n) b))
 
   pub chain-bytes : (D last R : ℕ) → D ≤ 15 → last ≤ 15 → 10 ≤ R → R ≤ 31 → (t bytes : List ℕ) → Bytes 32 t → Small bytes → Bytes 32 (chain f D last R t bytes)
-  unfolding chain tail-of
+  unfolding tail-of
   chain-bytes D last R d l e g t bytes p b =
       link-bytes last R l e g _ _ (links-bytes D R d e g t bytes (full-blocks bytes) p b (omega arith))
       (padded-block (tail-of bytes) (simp length-drop (omega arith)) (drop-bytes bytes (32 * full-blocks bytes) b))

@@ -23,7 +23,7 @@ module _ (f : Block-function) where
   links D R t bytes (suc n) = link D R (links D R t bytes n) (block-at bytes n)
 
   -- all full blocks by separator D, and then the padded tail, which is never left out, by separator last
-  unfoldable pub chain : (D last R : ℕ) (t bytes : List ℕ) → List ℕ
+  abbrev pub chain : (D last R : ℕ) (t bytes : List ℕ) → List ℕ
   chain D last R t bytes = link last R (links D R t bytes (full-blocks bytes)) (padded 32 (tail-of bytes))
 
   -- a chain takes a block: its value before and after

@@ -4,5 +4,5 @@ use Rattle.modes.specs.Cascade.{tag}
 use Rattle.modes.proofs.cascade.tag_of.Needs as need
 
 pub returns : need.returns
-unfolding tag chain
+unfolding tag
 returns g c = search needs
