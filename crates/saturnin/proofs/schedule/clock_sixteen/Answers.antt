@@ -9,7 +9,7 @@ loop-i-init c = refl
 
 pub loop-i-preserved : goal.loop-i-preserved
 loop-i-preserved c =
-    c.clock-once-x.ensures ∙ ap (clock (65536 + c.args.taps)) c.loop-i.invariant ∙ clocked_more (65536 + c.args.taps) c.args.c c.loop-i.-i
+    c.clock_once-x.ensures ∙ ap (clock (65536 + c.args.taps)) c.loop-i.invariant ∙ clocked_more (65536 + c.args.taps) c.args.c c.loop-i._i
 
 pub returns : goal.returns
 returns c = c.loop-i.invariant ∙ ap (clocked (65536 + c.args.taps) c.args.c) (omega arith)

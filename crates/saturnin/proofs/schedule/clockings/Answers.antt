@@ -13,8 +13,8 @@ loop-i-preserved c =
     let P = 65536 + c.args.taps in
     let i = c.loop-i.i in
     let out = c.loop-i.out in
-    let e : c.clock-sixteen-c.result ≡ clocked P c.args.start (16 * (i + 1)) =
-    c.clock-sixteen-c.ensures ∙ ap (λ v. clocked P v 16) c.loop-i.invariant.0 ∙ clocked-add P c.args.start (16 * i) 16 ∙ ap (clocked P c.args.start) (omega arith) in (
+    let e : c.clock_sixteen-c.result ≡ clocked P c.args.start (16 * (i + 1)) =
+    c.clock_sixteen-c.ensures ∙ ap (λ v. clocked P v 16) c.loop-i.invariant.0 ∙ clocked-add P c.args.start (16 * i) 16 ∙ ap (clocked P c.args.start) (omega arith) in (
       e,
       length-set out i _ ∙ c.loop-i.invariant.1,
       below_more _ _
