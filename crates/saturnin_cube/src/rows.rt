@@ -16,7 +16,7 @@ pub(crate) trait Rows {
 }
 
 pub(crate) fn cube_of<T: Rows>(given: &T) -> Cube
-    ensures { nibbles result ≡ whole given.now }
+    ensures { nibbles result ≡ T.whole given.now }
 {
     let mut rows = [Row { nibbles: [0; 4] }; 16];
     for b in 0..16 {

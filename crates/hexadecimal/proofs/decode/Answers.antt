@@ -30,5 +30,5 @@ returns c =
       digits = λ k h. subst (λ t. Digits t k (get_or (vec_items v) k 0)) e (c.loop-i.invariant.1 k (omega (arith, l)));
     }
 
-pub returns-in-err-push : goal.returns-in-err-push
-returns-in-err-push c = let p = err_from_is_err_and c.from-residual.result c.from-residual.ensures.1 in rw p.1 tt
+pub returns-in_err-push : goal.returns-in_err-push
+returns-in_err-push c = let p = err_from_is_err_and c.from_residual.result c.from_residual.ensures.1 in rw p.1 tt

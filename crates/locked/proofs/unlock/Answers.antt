@@ -1,31 +1,31 @@
 use Rattle.std.proofs.Common.{◌≡◌, not, take, sym, refl, ap, ◌∙◌, subst, inl, inr, arith}
-use Rattle.std.proofs.lemmas.Slice.Eq.{slice_eq-Decides}
+use Rattle.std.specs.Str.{bytes_eq}
+use Rattle.std.proofs.lemmas.Slice.Eq.{bytes_eq-Decides}
 use Rattle.std.proofs.lemmas.List.{take_rest}
 use Rattle.std.proofs.lemmas.Bool.{true≢false, cases_Bool}
 use Rattle.modes.specs.Cascade.{Opens}
 use Rattle.locked.specs.Locked.{magic}
 use Rattle.locked.proofs.Holding.{nonce_of, sign_of, other_word, this_word}
 use Rattle.locked.proofs.unlock.Goals as goal
-use Rattle.std.proofs.lemmas.Bool.Decides.{Decides-eqb}
 
 pub returns-then-ne : goal.returns-then-ne
 returns-then-ne g c =
     let f = g.C.Cipher.forward c.args.cipher.now in
-    let d = slice_eq-Decides Decides-eqb _ _ c.ne.ensures.0 c.ne.ensures.1 in
+    let d = bytes_eq-Decides (take 4 c.args.file.now) magic in
     other_word f (g.met.C.Cipher.gives_blocks c.args.cipher.now) c.args.key.now c.args.file.now c.args.out.now
-    (λ i. (c.type-inv.key i).fits) (λ i. (c.type-inv.file i).fits) _ c.fill.new.self (λ i. (c.type-inv.out i).fits) (omega arith) (omega arith) (omega arith)
-    (λ q. true≢false (sym c.if-ne.true ∙ c.ne.ensures.2 ∙ ap not (d.1 q))) refl (c.fill.ensures.after (λ y e. e))
+    (λ i. (c.type_inv.key i).fits) (λ i. (c.type_inv.file i).fits) _ c.fill.new.self (λ i. (c.type_inv.out i).fits) (omega arith) (omega arith) (omega arith)
+    (λ q. true≢false (sym c.if-ne.true ∙ c.ne.ensures ∙ ap not (d.1 q))) refl (c.fill.ensures.after (λ y e. e))
 
 pub returns : goal.returns
 returns g c =
     let f = g.C.Cipher.forward c.args.cipher.now in
     let key = c.args.key.now in
     let file = c.args.file.now in
-    let d = slice_eq-Decides Decides-eqb _ _ c.ne.ensures.0 c.ne.ensures.1 in
-    let word : take 4 file ≡ magic = elim (cases_Bool c.ne.ensures.0) [
+    let d = bytes_eq-Decides (take 4 c.args.file.now) magic in
+    let word : take 4 file ≡ magic = elim (cases_Bool (bytes_eq (take 4 file) magic)) [
       | inl y ↦ d.0 y
-      | inr n ↦ absurd (true≢false (sym (c.ne.ensures.2 ∙ ap not n) ∙ c.if-ne.false))
+      | inr n ↦ absurd (true≢false (sym (c.ne.ensures ∙ ap not n) ∙ c.if-ne.false))
     ] in
     this_word f (g.met.C.Cipher.gives_blocks c.args.cipher.now) key file c.args.out.now
-    (λ i. (c.type-inv.key i).fits) (λ i. (c.type-inv.file i).fits) _ c.open.new.out (λ i. (c.type-inv.out i).fits) (omega arith) (omega arith) (omega arith)
+    (λ i. (c.type_inv.key i).fits) (λ i. (c.type_inv.file i).fits) _ c.open.new.out (λ i. (c.type_inv.out i).fits) (omega arith) (omega arith) (omega arith)
     word (subst (λ t. Opens f key (nonce_of f key file) magic t (sign_of f key file) c.args.out.now c.open.result c.open.new.out) (take_rest file 56) c.open.ensures.opens)

@@ -4,6 +4,6 @@ use Rattle.majgunter.proofs.digests.digest_line.Goals as goal
 
 pub returns : goal.returns
 returns c =
-    let d = c.in-ok-digest.ensures in
+    let d = c.in_ok-digest.ensures in
     let name = c.args.name.now in
-    (d.0, c.in-ok-format.ensures.ok ∙ ap (λ t. t ++ (codes "  " ++ name)) (c.in-ok-text.ensures ∙ ap spelled d.1))
+    (d.0, c.in_ok-format.ensures.ok ∙ ap (λ t. t ++ (codes "  " ++ name)) (c.in_ok-text.ensures ∙ ap spelled d.1))

@@ -7,22 +7,22 @@ use Rattle.std.proofs.lemmas.List.{take_at}
 use Rattle.majgunter.proofs.Buffers.{unlock_done, unlock_refused}
 use Rattle.majgunter.proofs.locks.unlocked_bytes.Goals as goal
 
-pub returns-in-err-unlock : goal.returns-in-err-unlock
-returns-in-err-unlock c =
-    let p = err_from_is_err_and c.from-residual-in-err-unlock.result c.from-residual-in-err-unlock.ensures.1 in
-    let l = c.as-mut-slice.ensures.len in
-    let made = c.in-ok-message.ensures.made in
+pub returns-in_err-unlock : goal.returns-in_err-unlock
+returns-in_err-unlock c =
+    let p = err_from_is_err_and c.from_residual-in_err-unlock.result c.from_residual-in_err-unlock.ensures.1 in
+    let l = c.as_mut_slice.ensures.len in
+    let made = c.in_ok-message.ensures.made in
     let s = c.saturating-sub.ensures in
     subst (Unlocking vec_items c.args.key.now c.args.file.now) (sym (p.1 ∙ ap Err p.2))
-    (unlock_refused c.args.key.now c.args.file.now c.as-mut-slice.result.now c.unlock.new.out _ (omega (arith, l, made, s)) c.in-err-unlock.ensures)
+    (unlock_refused c.args.key.now c.args.file.now c.as_mut_slice.result.now c.unlock.new.out _ (omega (arith, l, made, s)) c.in_err-unlock.ensures)
 
 pub returns : goal.returns
 returns c =
     let k = c.unlock.auto.out in
-    let l = c.as-mut-slice.ensures.len in
-    let made = c.in-ok-message.ensures.made in
+    let l = c.as_mut_slice.ensures.len in
+    let made = c.in_ok-message.ensures.made in
     let s = c.saturating-sub.ensures in
     let key = c.args.key.now in
     let file = c.args.file.now in
-    let d = unlock_done key file c.as-mut-slice.result.now c.unlock.new.out c.in-ok-unlock.field-0 (omega (arith, l, made, s)) c.in-ok-unlock.ensures in
+    let d = unlock_done key file c.as_mut_slice.result.now c.unlock.new.out c.in_ok-unlock.field-0 (omega (arith, l, made, s)) c.in_ok-unlock.ensures in
     (d.0, subst (Holds forward key file) (sym (take_at c.unlock.new.out _ _ (k ∙ l))) d.1)

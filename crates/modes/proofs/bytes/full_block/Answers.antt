@@ -7,4 +7,4 @@ unfolding block_at
 returns c =
     let i = c.args.i in
     let e : 32 * i + 32 - 32 * i ≡ 32 = omega arith in
-    c.block-of.ensures ∙ ap (λ n. take n (drop (32 * i) c.args.s.now)) e
+    c.block_of.ensures ∙ ap (λ n. take n (drop (32 * i) c.args.s.now)) e

@@ -3,8 +3,8 @@ use Rattle.std.proofs.lemmas.Result.{err_from_is_err_and}
 use Rattle.modes.proofs.Refusing.{seal-refused}
 use Rattle.modes.proofs.cascade.seal.Goals as goal
 
-pub returns-in-err-allowed : goal.returns-in-err-allowed
-returns-in-err-allowed g c =
-    let p = err_from_is_err_and c.from-residual.result c.from-residual.ensures.1 in
+pub returns-in_err-allowed : goal.returns-in_err-allowed
+returns-in_err-allowed g c =
+    let p = err_from_is_err_and c.from_residual.result c.from_residual.ensures.1 in
     seal-refused (g.C.Cipher.forward c.args.cipher.now) c.args.key.now c.args.nonce.now c.args.associated.now c.args.message.now c.args.out.now c.args.tag.now
-    c.in-err-allowed.field-0.0 c.from-residual.result (p.1 ∙ ap Err p.2) c.in-err-allowed.ensures
+    c.in_err-allowed.field-0.0 c.from_residual.result (p.1 ∙ ap Err p.2) c.in_err-allowed.ensures

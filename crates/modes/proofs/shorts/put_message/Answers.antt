@@ -5,4 +5,4 @@ use Rattle.modes.proofs.shorts.put_message.Goals as goal
 
 pub returns : goal.returns
 returns c =
-    message_put c.args.plain.now c.copy-from-slice.new.self c.wipe.new.s c.args.n c.requires.1 c.copy-from-slice.ensures.after (c.wipe.ensures ∙ ap zeros c.requires.0)
+    message_put c.args.plain.now c.copy_from_slice.new.self c.wipe.new.s c.args.n c.requires.1 c.copy_from_slice.ensures.after (c.wipe.ensures ∙ ap zeros c.requires.0)

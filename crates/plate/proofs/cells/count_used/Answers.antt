@@ -4,8 +4,8 @@ use Rattle.shelf.proofs.Cells.{used-within, used_more, used_less}
 use Rattle.plate.proofs.cells.count_used.Goals as goal
 use Rattle.plate.proofs.cells.count_used.Goals.{then-mark-ne0, else-mark-ne0}
 
-pub overflow-add-used : goal.overflow-add-used
-overflow-add-used c = omega (arith, used-within c.args.memory.now c.loop-j.j)
+pub overflow_add-used : goal.overflow_add-used
+overflow_add-used c = omega (arith, used-within c.args.memory.now c.loop-j.j)
 
 pub loop-j-preserved : goal.loop-j-preserved
 loop-j-preserved c =

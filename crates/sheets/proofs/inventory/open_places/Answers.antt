@@ -4,8 +4,8 @@ use Rattle.sheets.proofs.Counting.{open_more, open_less, open_within}
 use Rattle.sheets.proofs.inventory.open_places.Goals as goal
 use Rattle.sheets.proofs.inventory.open_places.Goals.{then-is-open, else-is-open}
 
-pub overflow-add-open : goal.overflow-add-open
-overflow-add-open g c = omega (arith, open_within (g.S.Shelf.meaning c.args.shelf.now) c.loop-place.place)
+pub overflow_add-open : goal.overflow_add-open
+overflow_add-open g c = omega (arith, open_within (g.S.Shelf.meaning c.args.shelf.now) c.loop-place.place)
 
 pub loop-place-preserved : goal.loop-place-preserved
 loop-place-preserved g c =

@@ -9,8 +9,8 @@ loop-item-preserved c =
     let head = string_bytes c.args.head in
     let entries = c.args.entries.now in
     let i = c.loop-item.item-index in
-    c.in-ok-push-str.ensures.bytes
-    ∙ ap₂ (λ a b. a ++ b) c.loop-item.invariant (c.as-str.ensures.value ∙ c.in-ok-line.ensures)
+    c.in_ok-push-str.ensures.bytes
+    ∙ ap₂ (λ a b. a ++ b) c.loop-item.invariant (c.as_str.ensures.value ∙ c.in_ok-line.ensures)
     ∙ flat_map_more entry_line head (take i entries) _
     ∙ ap (λ items. head ++ flat_map entry_line items) (sym (take_more entries i _ c.loop-item-test.true))
 

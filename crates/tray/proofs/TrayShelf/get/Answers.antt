@@ -10,5 +10,5 @@ returns c =
     let memory = c.args.self.now.memory.now in
     let from = 1024 * c.args.place in
     let buffer = c.args.buffer.now in
-    let free = clear (get_table (tray memory) c.args.place (length buffer)) None tt c.in-ok-allows-get.ensures in
-    get_done (tray memory) c.args.place buffer _ free (c.copy-from-slice.ensures.after ∙ part_is from 1024 (from + 1024) memory refl)
+    let free = clear (get_table (tray memory) c.args.place (length buffer)) None tt c.in_ok-allows-get.ensures in
+    get_done (tray memory) c.args.place buffer _ free (c.copy_from_slice.ensures.after ∙ part_is from 1024 (from + 1024) memory refl)

@@ -2,8 +2,8 @@ use Rattle.std.proofs.Common.{◌≡◌, ◌-◌, ◌<◌, ◌≤◌, length, ta
 use Rattle.numbers.proofs.Places.{Moved, listed-length, moved_more, moved_all}
 use Rattle.numbers.proofs.list.NumbersOut.remove.Goals as goal
 
-pub overflow-sub-self : goal.overflow-sub-self
-overflow-sub-self c = let h = listed-length c.args.self.now in search rules
+pub overflow_sub-self : goal.overflow_sub-self
+overflow_sub-self c = let h = listed-length c.args.self.now in search rules
 
 pub loop-k-preserved : goal.loop-k-preserved
 loop-k-preserved c =

@@ -13,11 +13,11 @@ returns-in-Some c =
     let shown = plate memory c.args.self.now.places in
     let place = c.args.place in
     let buffer = c.args.buffer.now in
-    let free = clear (get_table shown place (length buffer)) None tt c.in-ok-allows-get.ensures in
+    let free = clear (get_table shown place (length buffer)) None tt c.in_ok-allows-get.ensures in
     let j = c.in-Some.j in
     let found = c.in-Some.ensures.inside (get_clear shown place (length buffer) free).1 in
     get_done shown place buffer _ free (
-    c.copy-from-slice.ensures.after ∙ part_is (1026 * j + 2) 1024 (1026 * j + 1026) memory (omega arith)
+    c.copy_from_slice.ensures.after ∙ part_is (1026 * j + 2) 1024 (1026 * j + 1026) memory (omega arith)
     ∙ ap (held memory) (sym (last_is memory place (cells memory) (Some j) found)))
 
 pub returns-in-None : goal.returns-in-None
@@ -26,7 +26,7 @@ returns-in-None c =
     let shown = plate memory c.args.self.now.places in
     let place = c.args.place in
     let buffer = c.args.buffer.now in
-    let free = clear (get_table shown place (length buffer)) None tt c.in-ok-allows-get.ensures in
+    let free = clear (get_table shown place (length buffer)) None tt c.in_ok-allows-get.ensures in
     let ok = get_clear shown place (length buffer) free in
     let found = c.in-None.ensures.inside ok.1 in
     get_done shown place buffer _ free (c.wipe.ensures ∙ ap zeros ok.0 ∙ ap (held memory) (sym (last_is memory place (cells memory) None found)))

@@ -14,7 +14,7 @@ loop-i-preserved-then-i-eq0 c D e₀ e₁ =
     let R = c.args.r.value in
     let k = nibbles c.args.key in
     let s = nibbles c.loop-i.s in
-    ap (rounds⁻¹ k D R (2 * i)) c.slice-round-back-s.ensures
+    ap (rounds⁻¹ k D R (2 * i)) c.slice_round_back-s.ensures
     ∙ rw c.moved-rotated.ensures (slice_step⁻¹ k D R _ _ e₀ e₁ i (omega arith) s c.if-i-eq0.true)
     ∙ ap (λ n. rounds⁻¹ k D R (2 * n) s) (let e : i + 1 ≡ c.loop-i.i = omega arith in e) ∙ c.loop-i.invariant D e₀ e₁
 
@@ -24,7 +24,7 @@ loop-i-preserved c D e₀ e₁ =
     let R = c.args.r.value in
     let k = nibbles c.args.key in
     let s = nibbles c.loop-i.s in
-    ap (rounds⁻¹ k D R (2 * i)) c.sheet-round-back-s.ensures
+    ap (rounds⁻¹ k D R (2 * i)) c.sheet_round_back-s.ensures
     ∙ sheet_step⁻¹ k D R _ _ e₀ e₁ i (omega arith) s (omega arith)
     ∙ ap (λ n. rounds⁻¹ k D R (2 * n) s) (let e : i + 1 ≡ c.loop-i.i = omega arith in e) ∙ c.loop-i.invariant D e₀ e₁
 

@@ -17,10 +17,10 @@ loop-i-preserved c D e₀ e₁ =
     let lt : i < 31 = omega arith in
     elim c.if-i-eq0.branch [
       | then-i-eq0 w ↦
-          ap nibbles w.s-is ∙ w.slice-round-s.ensures
+          ap nibbles w.s-is ∙ w.slice_round-s.ensures
           ∙ rw (c.moved-rotated.ensures, c.loop-i.invariant D e₀ e₁) (slice_step k D R _ _ e₀ e₁ i lt _ w.if-i-eq0.true)
       | else-i-eq0 w ↦
-          ap nibbles w.s-is ∙ w.sheet-round-s.ensures
+          ap nibbles w.s-is ∙ w.sheet_round-s.ensures
           ∙ rw (c.loop-i.invariant D e₀ e₁) (sheet_step k D R _ _ e₀ e₁ i lt _ (omega arith))
     ]
 
