@@ -5,7 +5,7 @@ ghost use Rattle.locked.specs.Locked.{lock_table, Locks, Unlocks};
 use faults::{ModeCause, ModeFault};
 use saturnin::Cipher;
 
-const MAGIC: &[u8; 4] = b"MGL1";
+const MAGIC: &[u8] = b"MGL1";
 
 // Locks a message into a file's buffer, which is as long as head and message.
 pub fn lock<C: Cipher>(
