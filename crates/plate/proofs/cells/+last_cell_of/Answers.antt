@@ -12,6 +12,6 @@ returns-then-mark-place t c =
 pub returns : goal.returns
 returns t c =
     let n : suc (c.args.n - 1) ≡ c.args.n = omega arith in
-    c.last-cell-of.ensures
+    c.last_cell_of.ensures
     ∙ sym (last-before c.args.memory.now c.args.place (c.args.n - 1) (λ e. c.if-mark-place.false (c.mark.ensures ∙ e)))
     ∙ ap (last_cell c.args.memory.now c.args.place) n

@@ -5,7 +5,7 @@ use Rattle.saturnin_words.proofs.bytes.store.Goals as goal
 
 pub loop-j-preserved : goal.loop-j-preserved
 loop-j-preserved c =
-    let e = c.to-le-bytes.ensures in (
+    let e = c.to_le_bytes.ensures in (
       simp length-set c.loop-j.invariant.0,
       word_more (words c.args.s) c.loop-j.bytes c.loop-j.j (omega arith) c.loop-j.invariant.0 c.loop-j.invariant.1 _ _ _ _
           (ap (λ l. at l 0) e) (ap (λ l. at l 1) e) (ap (λ l. at l 2) e) (ap (λ l. at l 3) e),

@@ -8,4 +8,4 @@ upper f j = ap₂ (λ a b. f a + 256 * f b) (omega arith) (omega arith)
 
 pub returns : goal.returns
 unfolding word register
-returns c = let u = upper (at c.args.bytes.now) c.args.j in c.from-le-bytes.ensures ∙ omega (arith, u)
+returns c = let u = upper (at c.args.bytes.now) c.args.j in c.from_le_bytes.ensures ∙ omega (arith, u)

@@ -13,9 +13,9 @@ loop-i-preserved c =
     let R = k.r.value in
     let K = cube_of c.args.key in
     let j : ℕ = c.loop-i.i - 1 in
-    let t = c.turned-turned-key.ensures in
-    slice_return K _ t D R k.words.now k.lower k.upper (2 * j) (omega arith) _ _ (omega arith) c.slice-round-back-s-in-loop-i.ensures
-    ∙ sheet_return K _ t D R k.words.now k.lower k.upper (2 * j + 1) (omega arith) _ _ (omega arith) c.sheet-round-back-s.ensures
+    let t = c.turned-turned_key.ensures in
+    slice_return K _ t D R k.words.now k.lower k.upper (2 * j) (omega arith) _ _ (omega arith) c.slice_round_back-s-in-loop-i.ensures
+    ∙ sheet_return K _ t D R k.words.now k.lower k.upper (2 * j + 1) (omega arith) _ _ (omega arith) c.sheet_round_back-s.ensures
     ∙ ap (λ n. rounds⁻¹ K D R n (cube_of c.loop-i.s)) (omega arith)
     ∙ c.loop-i.invariant
 
@@ -31,7 +31,7 @@ returns c =
     elim c.if-constants-eq1.branch [
       | then-constants-eq1 w ↦
           ap (λ s. rounds⁻¹ K D R (2 * (2 * (R / 2))) (cube_of s)) w.s-is
-          ∙ slice_return K _ c.turned-turned-key.ensures D R k.words.now k.lower k.upper (2 * (R / 2)) (omega arith) _ _ (omega arith) w.slice-round-back-s.ensures
+          ∙ slice_return K _ c.turned-turned_key.ensures D R k.words.now k.lower k.upper (2 * (R / 2)) (omega arith) _ _ (omega arith) w.slice_round_back-s.ensures
           ∙ ap (λ n. rounds⁻¹ K D R n (cube_of c.args.block)) (let q : 2 * (2 * (R / 2) + 1) ≡ 2 * R = omega arith in q)
       | else-constants-eq1 w ↦ ap₂ (λ n s. rounds⁻¹ K D R n (cube_of s)) (let q : 2 * (2 * (R / 2)) ≡ 2 * R = omega arith in q) w.s-is
     ] in

@@ -16,8 +16,8 @@ loop-i-preserved c =
     let K = cube_of c.args.key in
     let i = c.loop-i.i in
     let s = cube_of c.xor-s.result in
-    let first = slice_turn K _ c.turned-turned-key.ensures D R k.words.now k.lower k.upper (2 * i) (omega arith) _ _ s (omega arith) c.loop-i.invariant c.slice-round-s.ensures in
-    sheet_turn K _ c.turned-turned-key.ensures D R k.words.now k.lower k.upper (2 * i + 1) (omega arith) _ _ s (omega arith) first c.sheet-round-s.ensures
+    let first = slice_turn K _ c.turned-turned_key.ensures D R k.words.now k.lower k.upper (2 * i) (omega arith) _ _ s (omega arith) c.loop-i.invariant c.slice_round-s.ensures in
+    sheet_turn K _ c.turned-turned_key.ensures D R k.words.now k.lower k.upper (2 * i + 1) (omega arith) _ _ s (omega arith) first c.sheet_round-s.ensures
     ∙ ap (λ n. rounds K D R n s) (omega arith)
 
 pub returns-then-constants-eq1 : goal.returns-then-constants-eq1
@@ -28,8 +28,8 @@ returns-then-constants-eq1 c =
     let K = cube_of c.args.key in
     let s = cube_of c.xor-s.result in
     let e : c.loop-i.i ≡ R / 2 = omega arith in
-    slice_turn K _ c.turned-turned-key.ensures D R k.words.now k.lower k.upper (2 * (R / 2)) (omega arith) _ _ s (omega arith)
-    (c.loop-i.invariant ∙ ap (λ n. rounds K D R (2 * (2 * n)) s) e) c.slice-round-s-then-constants-eq1.ensures
+    slice_turn K _ c.turned-turned_key.ensures D R k.words.now k.lower k.upper (2 * (R / 2)) (omega arith) _ _ s (omega arith)
+    (c.loop-i.invariant ∙ ap (λ n. rounds K D R (2 * (2 * n)) s) e) c.slice_round-s-then-constants-eq1.ensures
     ∙ ap₂ (rounds K D R) (omega arith) c.xor-s.ensures
 
 pub returns-else-constants-eq1 : goal.returns-else-constants-eq1

@@ -5,7 +5,7 @@ use Rattle.sealing.proofs.Reading.{wiped, found}
 use Rattle.sealing.proofs.openings.open_sheet.Goals as goal
 
 pub returns-in-Ok : goal.returns-in-Ok
-returns-in-Ok g c = found (open_sheet_table (g.C.Cipher.forward c.args.cipher.now) c.args.key.now c.args.place c.args.bytes.now) _ _ _ _ _ _ c.number-in-number.ensures c.in-Ok.ensures
+returns-in-Ok g c = found (open_sheet_table (g.C.Cipher.forward c.args.cipher.now) c.args.key.now c.args.place c.args.bytes.now) _ _ _ _ _ _ c.number_in-number.ensures c.in-Ok.ensures
 
 pub returns-in-Err : goal.returns-in-Err
 returns-in-Err g c =

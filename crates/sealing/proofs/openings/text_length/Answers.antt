@@ -13,17 +13,17 @@ returns-then-is-zero c = (λ h. refl, λ h. absurd (h (c.if-is-zero.ensures ∙ 
 pub returns-then-n-gt928 : goal.returns-then-n-gt928
 returns-then-n-gt928 c =
     let bytes = c.args.bytes.now in
-    let n = c.length-in-n.result in
+    let n = c.length_in-n.result in
     let unfit : Not (WellFormed bytes) = elim c.then-n-gt928.branch [
-      | then-n-gt928-via-then-n-gt928 w ↦ λ h. omega (arith, w.if-n-gt928.true, c.length-in-n.ensures, h.0)
-      | then-n-gt928-via-else-n-gt928+then-not-is-zero w ↦ not_formed bytes n c.requires c.length-in-n.ensures w.if-n-gt928.false w.if-not-is-zero.ensures
+      | then-n-gt928-via-then-n-gt928 w ↦ λ h. omega (arith, w.if-n-gt928.true, c.length_in-n.ensures, h.0)
+      | then-n-gt928-via-else-n-gt928+then-not-is-zero w ↦ not_formed bytes n c.requires c.length_in-n.ensures w.if-n-gt928.false w.if-not-is-zero.ensures
     ] in
     (λ e. absurd (c.if-is-zero.ensures (e ∙ ap zeros (sym c.requires))), λ h. (λ k. refl, λ k. absurd (k unfit)))
 
 pub returns : goal.returns
 returns c =
     let bytes = c.args.bytes.now in (
-      c.length-in-n.ensures,
+      c.length_in-n.ensures,
       λ e. c.if-is-zero.ensures (e ∙ ap zeros (sym c.requires)),
-      well_formed bytes c.length-in-n.result c.requires c.length-in-n.ensures c.if-n-gt928.false c.if-not-is-zero.ensures,
+      well_formed bytes c.length_in-n.result c.requires c.length_in-n.ensures c.if-n-gt928.false c.if-not-is-zero.ensures,
     )

@@ -16,7 +16,7 @@ returns g c =
     let few : length message ≤ 928 = omega arith in
     let key-long : length key ≡ 32 = search rules in
     let nonce_long : length nonce ≡ 16 = search rules in
-    let head_long : length c.head-of-head.result ≡ 48 = search rules in
+    let head_long : length c.head_of-head.result ≡ 48 = search rules in
     let data_long : length c.associated-associated.result ≡ 52 = search rules in
     let tag-long : length c.seal.new.tag ≡ 32 = search rules in
     let wiped_long : length c.wipe.new.s ≡ 1024 = search rules in
@@ -27,6 +27,6 @@ returns g c =
     let first = put_is 64 n c.wipe.new.s c.seal.new.out c.seal.new.out refl text_long in
     let long_1 : length c.paste.new.bytes ≡ 1024 = search rules in
     let long_2 : length c.paste-2.new.bytes ≡ 1024 = search rules in
-    let all = laid nonce c.head-of-head.result c.seal.new.out c.seal.new.tag c.wipe.new.s _ c.paste.new.bytes c.paste-2.new.bytes c.paste-3.new.bytes n
+    let all = laid nonce c.head_of-head.result c.seal.new.out c.seal.new.tag c.wipe.new.s _ c.paste.new.bytes c.paste-2.new.bytes c.paste-3.new.bytes n
     nonce_long head_long text_long few tag-long blank first (c.paste.ensures.fitting (omega (arith, nonce_long, ap length first, length-written 64 c.seal.new.out c.wipe.new.s (omega (arith, text_long, wiped_long)), wiped_long))) (c.paste-2.ensures.fitting (omega (arith, head_long, long_1))) (c.paste-3.ensures.fitting (omega (arith, tag-long, long_2))) in
-    (λ h. absurd (omega arith), λ h. (refl, all ∙ as_sealed f key nonce label message c.head-of-head.result c.associated-associated.result c.seal.new.out c.seal.new.tag c.args.place c.head-of-head.ensures c.associated-associated.ensures d.1 d.2))
+    (λ h. absurd (omega arith), λ h. (refl, all ∙ as_sealed f key nonce label message c.head_of-head.result c.associated-associated.result c.seal.new.out c.seal.new.tag c.args.place c.head_of-head.ensures c.associated-associated.ensures d.1 d.2))

@@ -7,6 +7,6 @@ pub returns : goal.returns
 returns c =
     let memory = c.args.self.now.memory.now in
     record {
-      inside = λ h. subst (LastCell memory c.args.place (cells memory)) (sym (c.last-cell-of.ensures ∙ ap (last_cell memory c.args.place) c.cells-in.ensures)) (last_law memory c.args.place (cells memory));
+      inside = λ h. subst (LastCell memory c.args.place (cells memory)) (sym (c.last_cell_of.ensures ∙ ap (last_cell memory c.args.place) c.cells_in.ensures)) (last_law memory c.args.place (cells memory));
       outside = λ h. absurd (omega arith);
     }

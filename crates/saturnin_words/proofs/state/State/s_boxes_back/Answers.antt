@@ -4,4 +4,4 @@ use Rattle.saturnin_words.proofs.state.State.s_boxes_back.Goals as goal
 
 pub returns : goal.returns
 unfolding S⁻¹
-returns c = mapped σ₀⁻¹ σ₁⁻¹ _ c.args.self c.sigma0-back.ensures c.sigma1-back.ensures
+returns c = mapped σ₀⁻¹ σ₁⁻¹ _ c.args.self c.sigma0_back.ensures c.sigma1_back.ensures
