@@ -11,19 +11,17 @@ use digests::digest_line;
 use files::read_limited;
 use locks::{lock_file, unlock_file};
 use problems::Problem;
+use std::process::ExitCode;
 use std::{env, io};
 
-// Something was refused or could not be read; what it was is on standard error.
-#[derive(Drop)]
-struct Failed;
-
-fn main(rt: HostRuntime) -> Result<(), Failed> {
+// Status 1 where something was refused or could not be read; what it was is on standard error.
+fn main(rt: HostRuntime) -> ExitCode {
     match run(&rt) {
-        Ok(true) => Ok(()),
-        Ok(false) => Err(Failed),
+        Ok(true) => ExitCode::SUCCESS,
+        Ok(false) => ExitCode::FAILURE,
         Err(e) => {
             let _ = eprintln!(rt; "majgunter: {e}");
-            Err(Failed)
+            ExitCode::FAILURE
         }
     }
 }

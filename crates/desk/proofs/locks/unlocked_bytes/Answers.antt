@@ -11,8 +11,8 @@ pub returns-in_err-unlock : goal.returns-in_err-unlock
 returns-in_err-unlock c =
     let p = err_from_is_err_and c.from_residual-in_err-unlock.result c.from_residual-in_err-unlock.ensures.1 in
     let l = c.as_mut_slice.ensures.len in
-    let made = c.in_ok-message.ensures.made in
-    let s = c.saturating-sub.ensures in
+    let made = c.in_ok-message.ensures.len in
+    let s = c.saturating_sub.ensures in
     subst (Unlocking vec_items c.args.key.now c.args.file.now) (sym (p.1 ∙ ap Err p.2))
     (unlock_refused c.args.key.now c.args.file.now c.as_mut_slice.result.now c.unlock.new.out _ (omega (arith, l, made, s)) c.in_err-unlock.ensures)
 
@@ -20,8 +20,8 @@ pub returns : goal.returns
 returns c =
     let k = c.unlock.auto.out in
     let l = c.as_mut_slice.ensures.len in
-    let made = c.in_ok-message.ensures.made in
-    let s = c.saturating-sub.ensures in
+    let made = c.in_ok-message.ensures.len in
+    let s = c.saturating_sub.ensures in
     let key = c.args.key.now in
     let file = c.args.file.now in
     let d = unlock_done key file c.as_mut_slice.result.now c.unlock.new.out c.in_ok-unlock.field-0 (omega (arith, l, made, s)) c.in_ok-unlock.ensures in
