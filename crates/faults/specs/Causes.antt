@@ -1,8 +1,6 @@
 -- Why a call is refused: the number and the layer of each cause, and what becomes of a fault on its way up to the box.
 use Rattle.std.specs.Prelude.{ℕ, Bool, true, false, Some, None}
-use Rattle.faults.specs.declared.ModeCause.{ModeCause}
 use Rattle.faults.specs.declared.ModeCause.TheVariants.{Length as ModeLength, Limit as ModeLimit, Parameter, Tag, Slip}
-use Rattle.faults.specs.declared.ShelfCause.{ShelfCause}
 use Rattle.faults.specs.declared.ShelfCause.TheVariants.{Length as ShelfLength, Outside, Shut, Unfit}
 use Rattle.faults.specs.declared.BoxCause.{BoxCause}
 use Rattle.faults.specs.declared.BoxCause.TheVariants.{Mode, Shelf, Length, Limit, NotOut, UsedUp, SixteenOut, Empty, Filling}

@@ -1,3 +1,5 @@
+#![tactic(auto)]
+
 ghost use Rattle.std.specs.Prelude.{◌≡◌};
 ghost use Rattle.faults.specs.Causes.{entry, from_mode, from_shelf, placed};
 ghost use Rattle.faults.specs.declared.BoxCause.TheVariants.{Mode, Shelf};

@@ -1,3 +1,5 @@
+#![tactic(auto)]
+
 ghost use Rattle.std.specs.Prelude.{◌≡◌, ℕ, ◌+◌, ◌*◌, ◌<◌, List, length, IfOk, string_bytes, MatchOption};
 ghost use Rattle.std.specs.Char.{digit_char, digit_value};
 ghost use Rattle.hexadecimal.specs.Hex.{spelled, Spells};

@@ -1,3 +1,5 @@
+#![tactic(auto)]
+
 mod records;
 mod tasks;
 

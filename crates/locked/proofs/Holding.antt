@@ -1,9 +1,7 @@
 -- A file holds a message exactly where its parts open.
-use Rattle.std.proofs.Common.{◌≡◌, ℕ, zero, suc, ◌+◌, ◌<◌, ◌≤◌, List, ◌++◌, length, get_or, take, drop, Ok, Err, Result, sym, refl, ap, ◌∙◌, subst, ap₂, arith, lit<, lit≤}
+use Rattle.std.proofs.Common.{◌≡◌, ℕ, zero, suc, ◌+◌, ◌<◌, ◌≤◌, List, ◌++◌, length, take, drop, Ok, Err, Result, sym, refl, ap, ◌∙◌, subst, ap₂, arith, lit<, lit≤}
 use Rattle.std.proofs.lemmas.List.{length-take, length-drop, take_at, drop_at, drop-drop}
-use Rattle.faults.specs.Tables.{Not}
-use Rattle.faults.specs.declared.ModeCause.{ModeCause}
-use Rattle.faults.specs.declared.ModeCause.TheVariants.{Length, Limit, Tag}
+use Rattle.faults.specs.declared.ModeCause.TheVariants.{Tag}
 use Rattle.faults.specs.declared.ModeFault.{ModeFault}
 use Rattle.saturnin.specs.Cube.{at}
 use Rattle.saturnin.specs.Meaning.{Bytes, BlockFunction, GivesBlocks}

@@ -1,3 +1,5 @@
+#![tactic(auto)]
+
 ghost use Rattle.std.specs.Prelude.{◌≡◌, ◌+◌, ◌≤◌, ◌++◌, length, take, drop, MatchResult};
 ghost use Rattle.faults.specs.Tables.{By};
 ghost use Rattle.locked.specs.Locked.{lock_table, Locks, Unlocks};

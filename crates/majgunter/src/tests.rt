@@ -11,7 +11,7 @@ fn locks_and_unlocks(rt: HostRuntime) -> Result<(), Fail> {
     fs::write(&rt, "rose", "a rose window")?;
     assert!(rt; lock_file(&rt, None, "key", "rose", "rose.locked").is_ok());
     assert!(rt; unlock_file(&rt, "key", "rose.locked", "rose.again").is_ok());
-    assert!(rt; fs::read(&rt, "rose.again")?.as_slice() == b"a rose window");
+    assert!(rt; fs::read(&rt, "rose.again")?.as_slice() == b"a rose window".as_slice());
     assert_eq!(rt;
         refusal(unlock_file(&rt, "other", "rose.locked", "never")),
         11

@@ -1,9 +1,9 @@
 -- Over a cipher that gives blocks, chain values and tags are blocks, and ciphertexts are bytes.
-use Rattle.std.proofs.Common.{◌≡◌, ℕ, zero, suc, ◌+◌, ◌-◌, ◌*◌, ◌/◌, ◌%◌, ◌^◌, ◌<◌, ◌≤◌, List, length, get_or, take, drop, sym, refl, ap, ◌∙◌, inl, inr, arith, lit<, lit≤}
-use lib.Bits.{bit_xor, xor_lt}
+use Rattle.std.proofs.Common.{◌≡◌, ℕ, zero, suc, ◌+◌, ◌*◌, ◌/◌, ◌%◌, ◌≤◌, List, length, get_or, drop, sym, ◌∙◌, inl, inr, arith, lit<, lit≤}
+use lib.Bits.{xor_lt}
 use Rattle.std.proofs.lemmas.Bool.{cases_lt}
 use Rattle.std.proofs.lemmas.List.{length-take, length-drop, get_or-drop, get_or_past}
-use Rattle.saturnin.specs.Meaning.{Bytes, BlockFunction, GivesBlocks, Takes}
+use Rattle.saturnin.specs.Meaning.{Bytes, BlockFunction, GivesBlocks}
 use Rattle.modes.specs.Bytes.{xor, padded, full_blocks, block_at, tail_of}
 use Rattle.modes.specs.Chains.{link, links, chain}
 use Rattle.modes.specs.Counters.{counter_block}

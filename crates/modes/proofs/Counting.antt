@@ -1,5 +1,5 @@
 -- A counter block as a number: the padded nonce with the counter in its last 95 bits.
-use Rattle.std.proofs.Common.{◌≡◌, ℕ, zero, suc, ◌+◌, ◌-◌, ◌*◌, ◌/◌, ◌%◌, ◌^◌, ◌<◌, ◌≤◌, List, [], ◌∷◌, ◌++◌, length, get_or, sym, refl, ap, ◌∙◌, mul_assoc, mul_comm, pow-suc, arith, pow-add}
+use Rattle.std.proofs.Common.{◌≡◌, ℕ, zero, suc, ◌+◌, ◌-◌, ◌*◌, ◌/◌, ◌%◌, ◌^◌, ◌<◌, ◌≤◌, List, [], ◌∷◌, ◌++◌, length, sym, refl, ap, ◌∙◌, mul_assoc, mul_comm, pow-suc, arith, pow-add}
 use native.Mathlib.Nat.{mul-mul-mul_comm}
 use lib.Bits.{bit_xor, xor_block, xor_shifted}
 use Rattle.std.proofs.lemmas.List.{length-append}
@@ -16,19 +16,19 @@ spelt-xor (x ∷ a) (y ∷ b) l p q h k =
     ap (spelt (xor a b)) (sym (xor_block 8 h k x y (p 0) (q 0)))
     ∙ spelt-xor a b (omega arith) (λ i. p (suc i)) (λ i. q (suc i)) (h * 256 + x) (k * 256 + y)
 
-spelt-append : (a b : List ℕ) (h : ℕ) → spelt (a ++ b) h ≡ spelt b (spelt a h)
+pub spelt-append : (a b : List ℕ) (h : ℕ) → spelt (a ++ b) h ≡ spelt b (spelt a h)
 unfolding spelt
 spelt-append [] b h = refl
 spelt-append (x ∷ a) b h = spelt-append a b (h * 256 + x)
 
-spelt-zeros : (n h : ℕ) → spelt (zeros n) h ≡ h * 256 ^ n
+pub spelt-zeros : (n h : ℕ) → spelt (zeros n) h ≡ h * 256 ^ n
 unfolding spelt
 spelt-zeros zero h = omega arith
 spelt-zeros (suc n) h =
     let e : h * 256 + 0 ≡ h * 256 = omega arith in
     spelt-zeros n (h * 256 + 0) ∙ ap (λ t. t * 256 ^ n) e ∙ mul_assoc h 256 (256 ^ n) ∙ ap (λ t. h * t) (mul_comm 256 (256 ^ n) ∙ sym (pow-suc 256 n))
 
-spelt-big_endian : (n c : ℕ) → c < 256 ^ n → spelt (big_endian n c) 0 ≡ c
+pub spelt-big_endian : (n c : ℕ) → c < 256 ^ n → spelt (big_endian n c) 0 ≡ c
 unfolding spelt big_endian
 spelt-big_endian zero c h = omega arith
 spelt-big_endian (suc n) c h =

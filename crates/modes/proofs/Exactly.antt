@@ -1,15 +1,15 @@
 -- An opening is done exactly when a sealing gives those bytes.
-use Rattle.std.proofs.Common.{◌≡◌, ℕ, ◌<◌, ◌≤◌, Bool, true, false, List, [], ◌∷◌, length, Ok, Err, Result, sym, refl, ap, ◌∙◌, subst, inl, inr, arith}
+use Rattle.std.proofs.Common.{◌≡◌, ℕ, ◌<◌, List, length, Ok, Err, Result, sym, ap, ◌∙◌, inl, inr, arith}
 use Rattle.std.specs.Str.{bytes_eq}
 use Rattle.std.proofs.lemmas.Slice.Eq.{bytes_eq-Decides}
 use Rattle.std.proofs.lemmas.Bool.{cases_Bool, true≢false}
 use Rattle.faults.specs.Tables.{Not, Clear}
 use Rattle.faults.specs.declared.ModeCause.{ModeCause}
 use Rattle.faults.specs.declared.ModeFault.{ModeFault}
-use Rattle.faults.proofs.Tables.{done_from_clear, done_when, stable_eq}
+use Rattle.faults.proofs.Tables.{done_from_clear, done_when}
 use Rattle.saturnin.specs.Cube.{at}
 use Rattle.saturnin.specs.Meaning.{BlockFunction}
-use Rattle.modes.specs.Cascade.{seal_table, open_table, left, Opens, ctr, tag}
+use Rattle.modes.specs.Cascade.{open_table, left, Opens, ctr, tag}
 use Rattle.modes.specs.Exact.{SealsTo, OpensExactly}
 use Rattle.modes.proofs.Streams.{length-ctr, ctr_twice}
 

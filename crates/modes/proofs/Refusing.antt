@@ -1,5 +1,5 @@
 -- A call that is refused for the lengths of what it is handed.
-use Rattle.std.proofs.Common.{◌≡◌, ℕ, List, length, Ok, Err, Result, refl, ap, ◌∙◌}
+use Rattle.std.proofs.Common.{◌≡◌, ℕ, List, length, Err, Result, refl, ap, ◌∙◌}
 use Rattle.faults.specs.Tables.{By}
 use Rattle.faults.specs.declared.ModeFault.{ModeFault}
 use Rattle.saturnin.specs.Meaning.{BlockFunction}

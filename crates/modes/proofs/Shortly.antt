@@ -1,16 +1,15 @@
 -- An opening of Short is done exactly when a sealing of Short gives that block.
-use Rattle.std.proofs.Common.{◌≡◌, ℕ, ◌+◌, ◌-◌, ◌<◌, ◌≤◌, List, [], ◌∷◌, ◌++◌, length, get_or, take, drop, Ok, Err, Result, sym, refl, ap, ◌∙◌, subst, inl, inr, arith, lit≤}
+use Rattle.std.proofs.Common.{◌≡◌, ℕ, ◌+◌, ◌-◌, ◌<◌, ◌≤◌, List, ◌++◌, length, get_or, take, drop, Ok, Err, Result, sym, refl, ap, ◌∙◌, inl, inr, arith, lit≤}
 use Rattle.std.proofs.lemmas.Bool.{cases_lt}
 use Rattle.std.proofs.lemmas.List.{length-append, take_at, drop_at, get_or-append_right, get_or_past}
-use Rattle.faults.specs.Tables.{Not, Clear}
+use Rattle.faults.specs.Tables.{Clear}
 use Rattle.faults.specs.declared.ModeCause.{ModeCause}
 use Rattle.faults.specs.declared.ModeFault.{ModeFault}
 use Rattle.faults.proofs.Tables.{done_from_clear, done_when, stable_eq}
-use Rattle.saturnin.specs.Cube.{at}
-use Rattle.saturnin.specs.Meaning.{Bytes, BlockFunction, Takes, TwoWay}
-use Rattle.modes.specs.Bytes.{zeros, padded}
+use Rattle.saturnin.specs.Meaning.{BlockFunction, Takes, TwoWay}
+use Rattle.modes.specs.Bytes.{padded}
 use Rattle.modes.specs.Cascade.{left}
-use Rattle.modes.specs.Short.{short, short_table, short_open_table, Holds, filled, ShortOpens, ShortSealsTo, ShortOpensExactly}
+use Rattle.modes.specs.Short.{short, short_open_table, Holds, filled, ShortOpens, ShortSealsTo, ShortOpensExactly}
 use Rattle.modes.proofs.Texts.{Small, append-bytes, length-padded, padded_front, padded-here, padded_after, padded-bytes}
 use Rattle.modes.proofs.Exactly.{never_both}
 

@@ -1,7 +1,6 @@
 -- Chains of blocks over any block function f. The chain value is the key under which the next block goes.
 use Rattle.std.specs.Prelude.{◌≡◌, ℕ, zero, suc, ◌<◌, List, [], ◌∷◌, length, Ok, Err, Result}
-use Rattle.faults.specs.Tables.{Table, By, Not}
-use Rattle.faults.specs.declared.ModeCause.{ModeCause}
+use Rattle.faults.specs.Tables.{By, Not}
 use Rattle.faults.specs.declared.ModeCause.TheVariants.{Length, Limit}
 use Rattle.faults.specs.declared.ModeFault.{ModeFault}
 use Rattle.saturnin.specs.Meaning.{BlockFunction}

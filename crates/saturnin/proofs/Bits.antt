@@ -1,5 +1,5 @@
 -- Bits of numbers under AND, OR, XOR, shifts and remainders, and finite facts by a computed test.
-use Rattle.std.proofs.Common.{◌≡◌, ℕ, zero, suc, ◌+◌, ◌-◌, ◌*◌, ◌/◌, ◌%◌, ◌^◌, ◌<◌, ◌≤◌, Bool, true, false, cond, T, eqb, sym, refl, ap, ◌∙◌, subst, inl, inr, mul_assoc, pow-suc, arith, lit<, eqb→eq}
+use Rattle.std.proofs.Common.{◌≡◌, ℕ, zero, suc, ◌+◌, ◌-◌, ◌*◌, ◌/◌, ◌%◌, ◌^◌, ◌<◌, ◌≤◌, Bool, true, false, T, eqb, sym, ap, ◌∙◌, subst, inl, inr, mul_assoc, pow-suc, arith, lit<, eqb→eq}
 use lib.Bits.{bit_and, bit_or, bit_xor}
 use lib.Arith.{mod-mul}
 use Rattle.std.proofs.lemmas.Bool.{cases_eq}

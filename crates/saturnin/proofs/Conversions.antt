@@ -1,9 +1,9 @@
 -- Bytes to the cube and back.
-use Rattle.std.proofs.Common.{◌≡◌, ℕ, zero, suc, ◌+◌, ◌*◌, ◌/◌, ◌%◌, ◌<◌, List, [], ◌∷◌, length, get_or, sym, refl, ap, ◌∙◌, ap₂, inl, inr, arith, lit<}
+use Rattle.std.proofs.Common.{◌≡◌, ℕ, zero, suc, ◌+◌, ◌*◌, ◌/◌, ◌%◌, ◌<◌, List, [], ◌∷◌, length, sym, refl, ap, ◌∙◌, ap₂, inl, inr, arith, lit<}
 use Rattle.std.proofs.lemmas.List.{ext_get_or, get_or_past}
 use Rattle.std.proofs.lemmas.Bool.{cases_lt}
-use Rattle.saturnin.specs.Bits.{bit, nibble, number}
-use Rattle.saturnin.specs.Cube.{at, table, cube, register, to_cube, cube_register, from_cube}
+use Rattle.saturnin.specs.Bits.{bit, nibble}
+use Rattle.saturnin.specs.Cube.{at, register, to_cube, cube_register, from_cube}
 use Rattle.saturnin.specs.Meaning.{Bytes}
 use Rattle.saturnin.proofs.Bits.{bit_lt}
 use Rattle.saturnin.proofs.Tables.{at_table, length-table}

@@ -1,10 +1,10 @@
 -- The cipher gives blocks, and back undoes forward.
 use Rattle.std.proofs.Common.{◌≡◌, ℕ, zero, suc, ◌*◌, ◌/◌, ◌%◌, Bool, true, false, cond, eqb, List, sym, refl, ap, ◌∙◌}
-use Rattle.saturnin.specs.Cube.{Cube, to_cube, from_cube}
+use Rattle.saturnin.specs.Cube.{Cube, to_cube}
 use Rattle.saturnin.specs.Layers.{S, SR, SR⁻¹, MC, add}
 use Rattle.saturnin.specs.Rounds.{RC₀, RC₁, constants, rotated, round_key, add_subkey, round, rounds, forward}
-use Rattle.saturnin.specs.Back.{S⁻¹, MC⁻¹, round⁻¹, rounds⁻¹, back}
-use Rattle.saturnin.specs.Meaning.{Bytes, GivesBlocks, Takes, TwoWay}
+use Rattle.saturnin.specs.Back.{MC⁻¹, round⁻¹, rounds⁻¹, back}
+use Rattle.saturnin.specs.Meaning.{Bytes, GivesBlocks, TwoWay}
 use Rattle.saturnin.proofs.Inverse.{Good, S_good, S⁻¹_good, S_undone, S_redone, SR_good, SR⁻¹_good, SR_undone, SR_redone, rotated_good, add_good, add_undone, constants_good, MC_good, MC⁻¹_good, MC_undone, MC_redone}
 use Rattle.saturnin.proofs.Conversions.{to-cube-good, from-cube-bytes, to-from, from-to}
 

@@ -1,9 +1,9 @@
 -- Numbers and nibbles from their bits.
-use Rattle.std.proofs.Common.{◌≡◌, ℕ, zero, suc, ◌+◌, ◌*◌, ◌/◌, ◌%◌, ◌^◌, ◌<◌, sym, refl, ap, ◌∙◌, subst, ap₂, inl, inr, add-zero, mul_comm, add_comm, pow-suc, one-add, arith}
+use Rattle.std.proofs.Common.{◌≡◌, ℕ, zero, suc, ◌+◌, ◌*◌, ◌/◌, ◌%◌, ◌^◌, ◌<◌, sym, refl, ap, ◌∙◌, ap₂, inl, inr, add-zero, mul_comm, add_comm, pow-suc, one-add, arith}
 use Rattle.std.proofs.lemmas.Nat.{mod-mul-add, div-mul-add, mod-pow-add}
 use Rattle.std.proofs.lemmas.Bool.{cases_eq}
 use Rattle.saturnin.specs.Bits.{bit, nibble, number}
-use Rattle.saturnin.proofs.Bits.{bit_lt, bit_mod, bit_shr, same_below, same_on_bits}
+use Rattle.saturnin.proofs.Bits.{bit_mod, bit_shr, same_below, same_on_bits}
 
 pub number_same : (f g : ℕ → ℕ) (n : ℕ) → ((k : ℕ) → k < n → f k ≡ g k) → number f n ≡ number g n
 unfolding number

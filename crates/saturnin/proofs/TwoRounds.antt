@@ -1,5 +1,5 @@
 -- Two rounds at once are the rounds of the cipher.
-use Rattle.std.proofs.Common.{◌≡◌, ℕ, zero, suc, ◌+◌, ◌*◌, ◌/◌, ◌%◌, eqb, sym, refl, ap, ◌∙◌, ap₂, arith}
+use Rattle.std.proofs.Common.{◌≡◌, ℕ, suc, ◌+◌, ◌*◌, ◌/◌, ◌%◌, sym, ap, ◌∙◌, arith}
 use Rattle.std.proofs.lemmas.Bool.{eq-eqb, ne_eqb}
 use Rattle.saturnin.specs.Cube.{Cube}
 use Rattle.saturnin.specs.Layers.{S, SR_slice, SR_slice⁻¹, SR_sheet, SR_sheet⁻¹, SR, SR⁻¹, MC, add}

@@ -1,6 +1,6 @@
 -- Two rounds at once, as both forms of the cipher work them: what the contracts of their inner functions say. That these are
 -- the rounds of the cipher is proved, and nothing else rests on them.
-use Rattle.std.specs.Prelude.{ℕ, List}
+use Rattle.std.specs.Prelude.{ℕ}
 use Rattle.saturnin.specs.Cube.{Cube}
 use Rattle.saturnin.specs.Layers.{S, SR_slice, SR_slice⁻¹, SR_sheet, SR_sheet⁻¹, MC, add}
 use Rattle.saturnin.specs.Back.{S⁻¹, MC⁻¹}

@@ -1,3 +1,5 @@
+#![tactic(auto)]
+
 mod cipher;
 mod parameters;
 mod schedule;

@@ -1,3 +1,5 @@
+#![tactic(auto)]
+
 mod bits;
 mod blocks;
 mod boxes;

@@ -1,6 +1,6 @@
 -- The matrix on all columns at once. Bit p of a word and bit q, half a word away, belong to one column, and both halves go
 -- through the same steps.
-use Rattle.std.proofs.Common.{◌≡◌, ℕ, ◌+◌, ◌*◌, ◌/◌, ◌%◌, ◌<◌, sym, ap, ◌∙◌, ap₂, arith}
+use Rattle.std.proofs.Common.{◌≡◌, ℕ, ◌+◌, ◌*◌, ◌%◌, ◌<◌, ap, ◌∙◌, ap₂, arith}
 use lib.Bits.{bit_xor}
 use Rattle.saturnin.specs.Cube.{at}
 use Rattle.saturnin.specs.Layers.{α, M_row, MC}

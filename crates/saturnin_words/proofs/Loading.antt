@@ -9,7 +9,7 @@ use Rattle.saturnin.specs.Cube.{at, register, word, to_cube, cube_register, from
 use Rattle.saturnin.proofs.Bits.{bit_lt, bit_shr, same_below}
 use Rattle.saturnin.proofs.Tables.{at_table}
 use Rattle.saturnin.proofs.Numbers.{four, number_same, number_bit, bit-nibble}
-use Rattle.saturnin_words.specs.Words.{across, quad, bit_of, cube_of}
+use Rattle.saturnin_words.specs.Words.{across, quad, cube_of}
 use Rattle.saturnin_words.specs.declared.quad.Quad.{Quad}
 use Rattle.saturnin_words.specs.declared.state.State.{State}
 use Rattle.saturnin_words.proofs.Places.{read, at_place, by_rows}

@@ -1,9 +1,9 @@
 -- Words made of masked and shifted parts of a word: which bit stands where is settled by a test at each of 32 places.
-use Rattle.std.proofs.Common.{◌≡◌, ℕ, zero, suc, ◌+◌, ◌-◌, ◌*◌, ◌/◌, ◌%◌, ◌^◌, ◌<◌, ◌≤◌, Bool, true, false, cond, ◌||◌, T, eqb, leb, sym, refl, ap, ◌∙◌, subst, ap₂, inl, inr, arith, lit<, eqb→eq}
-use lib.Bits.{bit_and, bit_or, bit_xor, and_zero_r, or_lt}
+use Rattle.std.proofs.Common.{◌≡◌, ℕ, ◌+◌, ◌-◌, ◌*◌, ◌/◌, ◌%◌, ◌^◌, ◌<◌, Bool, true, false, cond, T, eqb, leb, sym, ap, ◌∙◌, subst, ap₂, inl, inr, lit<, eqb→eq}
+use lib.Bits.{bit_and, bit_or, and_zero_r, or_lt}
 use Rattle.std.proofs.lemmas.Bool.{cases_Bool, leb-true, leb-false}
 use Rattle.saturnin.specs.Bits.{bit}
-use Rattle.saturnin.proofs.Bits.{both, both_left, both_right, below, at_below, at_bits, same_on_bits, bit-bit_and, bit-bit_or, bit_shr, bit_shl, bit_shl_low, bit_mod, bit_lt, and_one}
+use Rattle.saturnin.proofs.Bits.{both, both_left, both_right, below, at_below, same_on_bits, bit-bit_and, bit-bit_or, bit_shr, bit_shl, bit_shl_low, bit_mod, bit_lt, and_one}
 
 pub data Sel : Type 0 where
   keep : ℕ → Sel

@@ -1,8 +1,8 @@
 -- Where the nibbles of a cube stand in the words, and what that says of moves, S-boxes, columns and sums.
-use Rattle.std.proofs.Common.{◌≡◌, ℕ, zero, suc, ◌+◌, ◌*◌, ◌/◌, ◌%◌, ◌<◌, Bool, true, false, cond, T, eqb, ltb, List, [], ◌∷◌, sym, refl, ap, ◌∙◌, ap₂, add-zero, arith, eqb→eq, ltb→lt}
+use Rattle.std.proofs.Common.{◌≡◌, ℕ, zero, suc, ◌+◌, ◌*◌, ◌/◌, ◌%◌, ◌<◌, Bool, true, false, cond, T, eqb, ltb, sym, ap, ◌∙◌, ap₂, add-zero, arith, eqb→eq, ltb→lt}
 use lib.Bits.{bit_xor}
-use Rattle.saturnin.specs.Bits.{bit, nibble}
-use Rattle.saturnin.specs.Cube.{Cube, at, cube}
+use Rattle.saturnin.specs.Bits.{bit}
+use Rattle.saturnin.specs.Cube.{at, cube}
 use Rattle.saturnin.specs.Layers.{add}
 use Rattle.saturnin.proofs.Bits.{both, both_left, both_right, below, at_below}
 use Rattle.saturnin.proofs.Tables.{at_table, same_table}

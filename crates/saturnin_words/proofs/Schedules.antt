@@ -1,5 +1,5 @@
 -- Where the words of a schedule come from: the table of the modes, whose rule is one test, or the clocking.
-use Rattle.std.proofs.Common.{◌≡◌, ℕ, ◌+◌, ◌-◌, ◌*◌, ◌/◌, ◌%◌, ◌<◌, ◌≤◌, Bool, cond, T, eqb, ltb, List, length, take, drop, sym, refl, ap, ◌∙◌, arith, eqb→eq}
+use Rattle.std.proofs.Common.{◌≡◌, ℕ, ◌+◌, ◌-◌, ◌*◌, ◌/◌, ◌%◌, ◌<◌, ◌≤◌, Bool, cond, T, eqb, ltb, List, length, take, drop, ap, ◌∙◌, arith, eqb→eq}
 use Rattle.std.proofs.lemmas.List.{length-take, length-drop, get_or-take, get_or-drop}
 use Rattle.saturnin.specs.Cube.{at, table}
 use Rattle.saturnin.specs.Rounds.{RC₀, RC₁}

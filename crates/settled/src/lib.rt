@@ -1,3 +1,5 @@
+#![tactic(auto)]
+
 ghost use Rattle.settled.specs.Settled.{Settled};
 
 // The settled cases, from the definitions, in one theorem.

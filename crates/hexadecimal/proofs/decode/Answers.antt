@@ -1,7 +1,6 @@
-use Rattle.std.proofs.Common.{◌≡◌, ℕ, ◌+◌, ◌*◌, ◌<◌, length, get_or, vec_items, vec_len, sym, refl, ap, ◌∙◌, subst, arith, below_more}
-use Rattle.std.specs.Char.{digit_value}
+use Rattle.std.proofs.Common.{◌≡◌, ◌+◌, length, get_or, vec_items, vec_len, sym, refl, ap, ◌∙◌, subst, arith, below_more}
 use Rattle.std.proofs.lemmas.Result.{err_from_is_err_and}
-use Rattle.hexadecimal.specs.Hex.{Digits, Spells}
+use Rattle.hexadecimal.specs.Hex.{Digits}
 use Rattle.hexadecimal.proofs.decode.Goals as goal
 
 pub loop-i-preserved : goal.loop-i-preserved

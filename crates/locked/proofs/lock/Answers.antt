@@ -1,6 +1,5 @@
-use Rattle.std.proofs.Common.{◌≡◌, ℕ, ◌+◌, ◌-◌, ◌≤◌, List, ◌++◌, length, take, refl, ap, ◌∙◌, ap₂, arith, rules}
+use Rattle.std.proofs.Common.{◌≡◌, ◌≤◌, ◌++◌, length, take, refl, ◌∙◌, ap₂, arith, rules}
 use Rattle.std.proofs.lemmas.List.{length-take}
-use Rattle.modes.specs.Cascade.{ctr, tag}
 use Rattle.locked.specs.Locked.{magic, locked}
 use Rattle.locked.proofs.Parts.{put_end, end_long, laid_out}
 use Rattle.locked.proofs.lock.Goals as goal

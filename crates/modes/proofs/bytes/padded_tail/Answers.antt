@@ -1,4 +1,4 @@
-use Rattle.std.proofs.Common.{◌≡◌, ◌*◌, ◌/◌, length, ap, ◌∙◌}
+use Rattle.std.proofs.Common.{◌*◌, ◌/◌, length, ap, ◌∙◌}
 use Rattle.std.proofs.lemmas.List.{take_rest}
 use Rattle.modes.specs.Bytes.{padded, tail_of}
 use Rattle.modes.proofs.bytes.padded_tail.Goals as goal

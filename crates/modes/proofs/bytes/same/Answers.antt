@@ -1,4 +1,4 @@
-use Rattle.std.proofs.Common.{◌≡◌, T, eqb, sym, ap, subst, arith, eqb→eq}
+use Rattle.std.proofs.Common.{◌≡◌, T, sym, subst, arith, eqb→eq}
 use Rattle.std.proofs.lemmas.Bool.{eq-eqb}
 use Rattle.modes.proofs.Agreeing.{Alike, alike_none, alike_more, alike_same}
 use Rattle.modes.proofs.bytes.same.Goals as goal

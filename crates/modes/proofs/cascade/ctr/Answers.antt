@@ -1,4 +1,4 @@
-use Rattle.std.proofs.Common.{◌≡◌, ◌/◌, length, sym, refl, ap, ◌∙◌, arith, rules}
+use Rattle.std.proofs.Common.{◌≡◌, ◌/◌, length, ap, ◌∙◌, rules}
 use Rattle.modes.specs.Cascade.{keystream}
 use Rattle.modes.proofs.Streams.{same_block, low_more, high_more, ctr-all}
 use Rattle.modes.proofs.cascade.ctr.Goals as goal

@@ -1,5 +1,4 @@
 use Rattle.std.proofs.Common.{rules}
-use Rattle.modes.specs.Chains.{chain}
 use Rattle.modes.specs.Cascade.{tag}
 use Rattle.modes.proofs.cascade.tag_of.Goals as goal
 

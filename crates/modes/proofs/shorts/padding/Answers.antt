@@ -1,4 +1,4 @@
-use Rattle.std.proofs.Common.{◌≡◌, ℕ, ◌-◌, ◌<◌, length, get_or, arith, rules}
+use Rattle.std.proofs.Common.{ℕ, ◌-◌, arith, rules}
 use Rattle.modes.proofs.Texts.{is_padded}
 use Rattle.modes.proofs.Paddings.{none_found, other_found}
 use Rattle.modes.proofs.shorts.padding.Goals as goal

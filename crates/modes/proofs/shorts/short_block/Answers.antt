@@ -1,4 +1,4 @@
-use Rattle.std.proofs.Common.{◌≡◌, ◌+◌, ◌-◌, ◌++◌, length, take, sym, refl, ap, ◌∙◌, arith, rules}
+use Rattle.std.proofs.Common.{◌≡◌, ◌+◌, ◌-◌, ◌++◌, length, take, ap, ◌∙◌, arith}
 use Rattle.modes.specs.Bytes.{padded}
 use Rattle.modes.proofs.Paddings.{padded_join}
 use Rattle.modes.proofs.shorts.short_block.Goals as goal

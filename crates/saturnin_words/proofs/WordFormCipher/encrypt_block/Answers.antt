@@ -1,4 +1,4 @@
-use Rattle.std.proofs.Common.{◌≡◌, ap, ◌∙◌}
+use Rattle.std.proofs.Common.{ap, ◌∙◌}
 use Rattle.saturnin.specs.Cube.{from_cube}
 use Rattle.saturnin.specs.Rounds.{forward}
 use Rattle.saturnin_words.proofs.WordFormCipher.encrypt_block.Goals as goal

@@ -1,4 +1,4 @@
-use Rattle.std.proofs.Common.{◌≡◌, ap, ◌∙◌}
+use Rattle.std.proofs.Common.{ap, ◌∙◌}
 use Rattle.saturnin.specs.Cube.{from_cube}
 use Rattle.saturnin.specs.Back.{back}
 use Rattle.saturnin_words.proofs.WordFormTwoWayCipher.decrypt_block.Goals as goal

@@ -1,4 +1,4 @@
-use Rattle.std.proofs.Common.{◌≡◌, ap, ◌∙◌, arith, length-set}
+use Rattle.std.proofs.Common.{ap, arith, length-set}
 use Rattle.saturnin.specs.Cube.{at}
 use Rattle.saturnin_words.proofs.Loading.{words, word_more, all_stored}
 use Rattle.saturnin_words.proofs.bytes.store.Goals as goal

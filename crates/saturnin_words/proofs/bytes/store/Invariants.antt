@@ -1,4 +1,4 @@
-use Rattle.std.proofs.Common.{◌≡◌, ℕ, ◌+◌, ◌*◌, ◌/◌, ◌%◌, ◌^◌, ◌<◌, length}
+use Rattle.std.proofs.Common.{◌≡◌, ℕ, ◌/◌, ◌%◌, ◌<◌, length}
 use Rattle.saturnin.specs.Cube.{at}
 use Rattle.saturnin_words.proofs.Loading.{byte}
 use Rattle.saturnin_words.proofs.bytes.store.Given as goal

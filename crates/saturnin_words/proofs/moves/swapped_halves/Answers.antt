@@ -1,7 +1,6 @@
 use Rattle.std.proofs.Common.{◌+◌, ◌%◌}
 use Rattle.saturnin.specs.Bits.{bit}
-use Rattle.saturnin_words.specs.Words.{in_word, in_slice, in_sheet, in_key}
-use Rattle.saturnin_words.proofs.Masks.{moves, keep, left, right, or}
+use Rattle.saturnin_words.proofs.Masks.{moves, left, right, or}
 use Rattle.saturnin_words.proofs.moves.swapped_halves.Goals as goal
 
 pub returns : goal.returns

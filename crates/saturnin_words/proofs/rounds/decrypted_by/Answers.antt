@@ -1,4 +1,4 @@
-use Rattle.std.proofs.Common.{◌≡◌, ℕ, ◌+◌, ◌-◌, ◌*◌, ◌/◌, sym, refl, ap, ◌∙◌, ap₂, arith}
+use Rattle.std.proofs.Common.{◌≡◌, ℕ, ◌+◌, ◌-◌, ◌*◌, ◌/◌, sym, ap, ◌∙◌, ap₂, arith}
 use Rattle.saturnin.specs.Layers.{add}
 use Rattle.saturnin.specs.Back.{rounds⁻¹}
 use Rattle.saturnin_words.specs.Words.{cube_of}

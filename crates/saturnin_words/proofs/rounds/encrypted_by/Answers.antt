@@ -1,4 +1,4 @@
-use Rattle.std.proofs.Common.{◌≡◌, ℕ, ◌+◌, ◌*◌, ◌/◌, refl, ap, ◌∙◌, ap₂, arith}
+use Rattle.std.proofs.Common.{◌≡◌, ◌+◌, ◌*◌, ◌/◌, refl, ap, ◌∙◌, ap₂, arith}
 use Rattle.saturnin.specs.Rounds.{rounds}
 use Rattle.saturnin_words.specs.Words.{cube_of}
 use Rattle.saturnin_words.proofs.Turns.{slice_turn, sheet_turn}

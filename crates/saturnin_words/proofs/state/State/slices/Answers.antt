@@ -1,7 +1,6 @@
-use Rattle.std.proofs.Common.{◌+◌, ◌%◌}
 use Rattle.saturnin.specs.Layers.{SR_slice}
-use Rattle.saturnin.specs.Layers.{slice_from, slice_to, sheet_from, sheet_to}
-use Rattle.saturnin_words.specs.Words.{in_word, in_slice, in_sheet, in_key}
+use Rattle.saturnin.specs.Layers.{slice_from}
+use Rattle.saturnin_words.specs.Words.{in_word, in_slice}
 use Rattle.saturnin_words.proofs.Places.{across_moves, moved}
 use Rattle.saturnin_words.proofs.state.State.slices.Goals as goal
 
