@@ -1,3 +1,5 @@
+#![tactic(auto)]
+
 mod commands;
 mod files;
 mod locks;

@@ -1,3 +1,5 @@
+#![tactic(auto)]
+
 use std::alloc::{AllocError, Global};
 
 // Runs commands of the program, one to a line of standard input, and says of each whether all was done.

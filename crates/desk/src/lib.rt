@@ -1,3 +1,5 @@
+#![tactic(auto)]
+
 mod digests;
 mod locks;
 mod shelves;

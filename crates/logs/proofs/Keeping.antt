@@ -1,5 +1,5 @@
 -- Every log of a box keeps the law.
-use Rattle.std.proofs.Common.{◌≡◌, ℕ, ◌+◌, ◌-◌, ◌≤◌, List, [], ◌∷◌, ◌++◌, length, take, drop, None, Ok, Err, Result, sym, refl, ap, ◌∙◌, subst, arith, lit≤}
+use Rattle.std.proofs.Common.{◌≡◌, ℕ, ◌≤◌, List, [], ◌∷◌, ◌++◌, length, take, drop, None, Ok, Err, Result, sym, refl, ap, ◌∙◌, subst, arith, lit≤}
 use mathlib.Core.Path.{transport}
 use Rattle.std.specs.List.{flat_map, AllByRecursion as All}
 use Rattle.std.proofs.lemmas.List.{append-nil, flat_map_more, same_from_push, take_at, drop_at, length_push, length-append, append_cancel_left}
@@ -8,8 +8,11 @@ use Rattle.std.proofs.ByRecursion.{All-push}
 use Rattle.faults.specs.Tables.{Clear}
 use Rattle.faults.specs.declared.BoxFault.{BoxFault}
 use Rattle.faults.proofs.Tables.{done_when}
-use Rattle.octets.specs.Octets.{Bytes, Octets, big_endian}
-use Rattle.octets.proofs.Bytewise.{append-bytes, big_endian_bytes, length-big_endian}
+use Rattle.saturnin.specs.Meaning.{Bytes}
+use Rattle.octets.specs.Octets.{Octets}
+use Rattle.modes.specs.Bytes.{big_endian}
+use Rattle.modes.proofs.Texts.{append-bytes}
+use Rattle.modes.proofs.Counting.{big_endian_bytes, length-big_endian}
 use Rattle.saturnin.specs.Meaning.{Takes}
 use Rattle.modes.specs.Bytes.{padded}
 use Rattle.modes.specs.Short.{short, Holds, filled}
@@ -19,7 +22,7 @@ use Rattle.sheets.specs.Sheets.{nonce_of, slip}
 use Rattle.logs.specs.States.{State, Made, Fair, without}
 use Rattle.logs.specs.Calls.{Done, refused, slip_table}
 use Rattle.logs.specs.Logs.{Line, Log, nothing_yet, and_then, Handed, Does, slips, read, unslip}
-use Rattle.logs.specs.Laws.{drawn, ended, apart, leaves, latest, Kept}
+use Rattle.logs.specs.Laws.{drawn, ended, leaves, latest, Kept}
 use Rattle.logs.proofs.Numbers.{Sound, sound-start, sound-draw, sound_end, range_out}
 use Rattle.logs.proofs.Layouts.{Held, given}
 use Rattle.logs.proofs.Moves.{Counted, same, draws, ends, moved, held_more}

@@ -1,5 +1,5 @@
 -- Every call has an answer, so the law is not about nothing.
-use Rattle.std.proofs.Common.{◌≡◌, ℕ, ◌+◌, ◌-◌, ◌<◌, ◌≤◌, cond, eqb, List, [], ◌∷◌, ◌++◌, length, take, drop, Some, None, Ok, Err, Option, Result, sym, refl, ap, ◌∙◌, subst, arith}
+use Rattle.std.proofs.Common.{◌≡◌, ℕ, ◌+◌, ◌-◌, cond, eqb, List, [], ◌∷◌, ◌++◌, length, take, drop, Some, None, Ok, Option, Result, sym, refl, ap, ◌∙◌, subst, arith}
 use mathlib.Core.List.{List-discrete}
 use native.Mathlib.Decide.{ℕ_discrete, dec_le, dec_lt}
 use Rattle.std.proofs.lemmas.List.{take_at, drop_at}
@@ -8,7 +8,8 @@ use Rattle.faults.specs.declared.ModeCause.TheVariants.{Slip}
 use Rattle.faults.specs.declared.ShelfCause.TheVariants.{Outside}
 use Rattle.faults.specs.declared.BoxCause.TheVariants.{Mode, Shelf, Length}
 use Rattle.faults.specs.declared.BoxFault.{BoxFault}
-use Rattle.octets.specs.Octets.{zeros, part}
+use Rattle.modes.specs.Bytes.{zeros}
+use Rattle.octets.specs.Octets.{part}
 use Rattle.modes.specs.Cascade.{ctr}
 use Rattle.modes.specs.Bytes.{padded}
 use Rattle.modes.specs.Short.{Holds, filled}
@@ -16,9 +17,9 @@ use Rattle.shelf.specs.Meaning.{Meaning, Placed}
 use Rattle.sheets.specs.Records.{empty, number_in}
 use Rattle.sheets.specs.Sheets.{sheet, slip, nonce_in, length_in, text_in, tag_in, with_text}
 use Rattle.logs.specs.States.{State, Made, last_number, count, without}
-use Rattle.logs.specs.Calls.{Draws, Seals, Slips, Voids, Clears, Reads, Unslips, Numbers, Done, refused, left, not_out, at, right_tag, draw_table, seal_table, slip_table, void_table, clear_table, read_table, unslip_table, number_table}
-use Rattle.logs.specs.Laws.{Answerable, AlwaysAnswerable}
-use Rattle.logs.proofs.Tables.{Decided, outcome, dec_not, dec_both, dec_true, dec_below}
+use Rattle.logs.specs.Calls.{Draws, Seals, Slips, Voids, Clears, Reads, Unslips, Numbers, Done, refused, left, not_out, right_tag, draw_table, seal_table, slip_table, void_table, clear_table, read_table, unslip_table}
+use Rattle.logs.specs.Laws.{AlwaysAnswerable}
+use Rattle.logs.proofs.Tables.{outcome, dec_not, dec_both, dec_true, dec_below}
 
 same_list : (xs ys : List ℕ) → Dec (xs ≡ ys)
 same_list xs ys = List-discrete ℕ_discrete xs ys

@@ -1,5 +1,5 @@
 -- Logs: lines, each one call on the box as the line before left it.
-use Rattle.std.specs.Prelude.{ℕ, ◌^◌, ◌<◌, List, [], ◌∷◌, ◌++◌, get_or, Result}
+use Rattle.std.specs.Prelude.{ℕ, List, [], ◌∷◌, ◌++◌, Result}
 use Rattle.faults.specs.declared.BoxFault.{BoxFault}
 use Rattle.octets.specs.Octets.{Octets}
 use Rattle.logs.specs.States.{Made, State}

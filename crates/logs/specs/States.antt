@@ -1,6 +1,6 @@
 -- What a box is, as far as its calls go.
 use Rattle.std.specs.Prelude.{ℕ, suc, cond, List, [], ◌∷◌, ◌==◌}
-use Rattle.octets.specs.Octets.{Bytes}
+use Rattle.saturnin.specs.Meaning.{Bytes}
 use Rattle.saturnin.specs.Meaning.{BlockFunction, GivesBlocks, TwoWay}
 use Rattle.shelf.specs.Meaning.{Meaning}
 

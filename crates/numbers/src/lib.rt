@@ -1,3 +1,5 @@
+#![tactic(auto)]
+
 mod list;
 
 pub use list::NumbersOut;

@@ -1,5 +1,8 @@
+#![tactic(auto)]
+
 ghost use Rattle.std.specs.Prelude.{◌≡◌, ◌+◌, ◌<◌, ◌≤◌, length, MatchBool, ◌≢◌};
-ghost use Rattle.octets.specs.Octets.{zeros, written};
+ghost use Rattle.modes.specs.Bytes.{zeros};
+ghost use Rattle.octets.specs.Octets.{written};
 
 // Makes every byte zero.
 pub fn wipe(s: &mut [u8])

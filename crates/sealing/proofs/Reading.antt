@@ -1,5 +1,5 @@
 -- A record that is opened, by what the opening of its parts answered.
-use Rattle.std.proofs.Common.{◌≡◌, ℕ, ◌+◌, ◌-◌, ◌≤◌, List, [], ◌∷◌, ◌++◌, length, take, drop, None, Ok, Err, Result, sym, refl, ap, ◌∙◌, ap₂, arith, lit≤}
+use Rattle.std.proofs.Common.{◌≡◌, ℕ, ◌+◌, ◌-◌, ◌≤◌, List, [], ◌∷◌, ◌++◌, length, take, drop, None, Ok, Err, Result, sym, ap, ◌∙◌, ap₂, arith}
 use mathlib.Core.Path.{transport}
 use Rattle.std.proofs.lemmas.List.{length-take, length-drop, length-append, take_all}
 use Rattle.faults.specs.Causes.{from_mode}
@@ -11,12 +11,12 @@ use Rattle.faults.specs.declared.BoxCause.TheVariants.{Mode}
 use Rattle.faults.specs.declared.BoxFault.{BoxFault}
 use Rattle.faults.proofs.Tables.{by_follows}
 use Rattle.sealing.specs.declared.found.Found.{Found}
-use Rattle.octets.specs.Octets.{part, written, big_endian}
-use Rattle.octets.proofs.Bytewise.{length-big_endian}
+use Rattle.octets.specs.Octets.{part, written}
+use Rattle.modes.specs.Bytes.{big_endian}
+use Rattle.modes.proofs.Counting.{length-big_endian}
 use Rattle.saturnin.specs.Meaning.{BlockFunction}
 use Rattle.modes.specs.Cascade.{ctr, left, Opens}
 use Rattle.modes.proofs.Exactly.{never_both}
-use Rattle.modes.proofs.Streams.{length-ctr}
 use Rattle.sheets.specs.Records.{empty}
 use Rattle.sheets.specs.Sheets.{associated, nonce_in, head_in, length_in, text_in, tag_in, WellFormed}
 use Rattle.sealing.specs.Sealing.{right_tag, form_table, open_sheet_table, opened}

@@ -1,5 +1,5 @@
 -- Sealing a sheet into a record, and opening a record: their tables and results.
-use Rattle.std.specs.Prelude.{◌≡◌, ℕ, ◌-◌, ◌<◌, List, [], ◌∷◌, ◌++◌, length, None, Ok, Err, Result}
+use Rattle.std.specs.Prelude.{◌≡◌, ℕ, ◌<◌, List, [], ◌∷◌, ◌++◌, length, None, Ok, Err, Result}
 use Rattle.faults.specs.Tables.{Table, By, Not}
 use Rattle.faults.specs.declared.ModeCause.{ModeCause}
 use Rattle.faults.specs.declared.ModeCause.TheVariants.{Limit, Tag}
@@ -7,11 +7,10 @@ use Rattle.faults.specs.declared.ModeFault.{ModeFault}
 use Rattle.faults.specs.declared.BoxCause.{BoxCause}
 use Rattle.faults.specs.declared.BoxCause.TheVariants.{Mode, Empty, Filling}
 use Rattle.faults.specs.declared.BoxFault.{BoxFault}
-use Rattle.octets.specs.Octets.{zeros}
 use Rattle.saturnin.specs.Meaning.{BlockFunction}
 use Rattle.modes.specs.Cascade.{ctr, tag}
 use Rattle.sheets.specs.Records.{empty, number_in}
-use Rattle.sheets.specs.Sheets.{head_of, sealed, associated, nonce_in, head_in, length_in, text_in, tag_in, WellFormed, with_text}
+use Rattle.sheets.specs.Sheets.{sealed, associated, nonce_in, head_in, length_in, text_in, tag_in, WellFormed, with_text}
 use Rattle.sealing.specs.declared.found.Found.{Found}
 
 abbrev pub seal_sheet_table : (message : List ℕ) → Table ModeCause

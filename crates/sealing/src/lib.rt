@@ -1,3 +1,5 @@
+#![tactic(auto)]
+
 mod found;
 mod openings;
 mod seals;

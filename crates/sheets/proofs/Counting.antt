@@ -1,8 +1,8 @@
 -- One place more.
-use Rattle.std.proofs.Common.{◌≡◌, ℕ, zero, suc, ◌+◌, ◌<◌, ◌≤◌, Bool, true, false, cond, List, [], ◌∷◌, ◌++◌, length, sym, ap, ◌∙◌, subst, inl, inr, add-one, arith}
+use Rattle.std.proofs.Common.{◌≡◌, ℕ, zero, suc, ◌+◌, ◌<◌, ◌≤◌, true, false, cond, List, [], ◌∷◌, ◌++◌, length, sym, ap, ◌∙◌, subst, inl, inr, add-one, arith}
 use Rattle.std.proofs.lemmas.Bool.{cases_Bool}
 use Rattle.faults.specs.Tables.{Not}
-use Rattle.octets.specs.Octets.{zeros}
+use Rattle.modes.specs.Bytes.{zeros}
 use Rattle.shelf.specs.Meaning.{Meaning, Lawful}
 use Rattle.sheets.specs.declared.entries.Entry.{Entry}
 use Rattle.sheets.specs.Records.{empty, number_in}

@@ -1,6 +1,7 @@
 -- The record of a sheet.
 use Rattle.std.specs.Prelude.{ℕ, List}
-use Rattle.octets.specs.Octets.{zeros, part, spelt}
+use Rattle.modes.specs.Bytes.{zeros, spelt}
+use Rattle.octets.specs.Octets.{part}
 
 -- what an empty place holds
 abbrev pub empty : List ℕ

@@ -1,3 +1,5 @@
+#![tactic(auto)]
+
 mod entries;
 mod inventory;
 mod records;

@@ -1,13 +1,14 @@
 -- Plates are shelves.
-use Rattle.std.proofs.Common.{◌≡◌, ℕ, ◌+◌, ◌*◌, ◌/◌, ◌%◌, ◌<◌, ◌≤◌, Bool, true, false, ◌&&◌, eqb, ltb, ◌⊎◌, List, ◌++◌, length, get_or, drop, Some, None, Ok, Option, sym, refl, ap, ◌∙◌, subst, ap₂, inl, inr, ⊎_elim, arith}
-use Rattle.std.proofs.lemmas.List.{length-append, length-take, length-drop, length-replicate}
-use Rattle.std.proofs.lemmas.Bool.{ltb_true, lt-ltb, ne_eqb, cases_lt, cases_eq, and_parts, and_from}
+use Rattle.std.proofs.Common.{◌≡◌, ℕ, ◌+◌, ◌*◌, ◌/◌, ◌%◌, ◌<◌, ◌≤◌, eqb, ltb, ◌⊎◌, List, ◌++◌, length, get_or, drop, Some, None, Ok, Option, sym, refl, ap, ◌∙◌, subst, ap₂, inl, inr, ⊎_elim, arith}
+use Rattle.std.proofs.lemmas.List.{length-take, length-drop, length-replicate}
+use Rattle.std.proofs.lemmas.Bool.{ltb-true, lt-ltb, ne_eqb, cases_lt, cases_eq, and_parts, and_from}
 use Rattle.faults.specs.Tables.{Not, Clear}
-use Rattle.octets.specs.Octets.{part, written, big_endian}
-use Rattle.octets.proofs.Bytewise.{length-big_endian}
+use Rattle.octets.specs.Octets.{part, written}
+use Rattle.modes.specs.Bytes.{big_endian}
+use Rattle.modes.proofs.Counting.{length-big_endian}
 use Rattle.octets.proofs.Writes.{length-written, drop-written, part-written, part_below, part_above, get_or-written, get_or-apart, written-before}
-use Rattle.shelf.specs.Meaning.{Lawful, Placed, Puts, put_table, Open}
-use Rattle.shelf.specs.Plates.{plate_cells, cells, mark, cell_bytes, Fit, used, FirstUnused, last_cell, LastCell, held, plate, PlateStores}
+use Rattle.shelf.specs.Meaning.{Lawful, Puts, put_table}
+use Rattle.shelf.specs.Plates.{plate_cells, cells, mark, cell_bytes, Fit, used, last_cell, LastCell, held, plate, PlateStores}
 use Rattle.shelf.proofs.Cells.{Front, last_law, last_is, last_same, front_used, front_one, first-unused}
 use Rattle.shelf.proofs.Tables.{put_clear, put_done}
 
@@ -19,14 +20,14 @@ module _ (memory : List ℕ) where
   pub plate_lawful : (places : ℕ) → places ≤ 4096 → Lawful (plate memory places)
   plate_lawful places few = record {
     few = omega arith;
-    inside = λ p o. ltb_true p places (and_parts (ltb p places) (ltb (used memory (cells memory)) (cells memory)) o).0;
+    inside = λ p o. ltb-true p places (and_parts (ltb p places) (ltb (used memory (cells memory)) (cells memory)) o).0;
     whole = λ p h. held-long p (last_cell memory p (cells memory)) (last_law memory p (cells memory));
   }
 
 -- a put that no row refuses finds an unused cell
 pub plate_room : (memory bytes : List ℕ) (places p : ℕ) → Clear (put_table (plate memory places) p (length bytes)) → used memory (cells memory) < cells memory
 plate_room memory bytes places p free =
-    ltb_true (used memory (cells memory)) (cells memory)
+    ltb-true (used memory (cells memory)) (cells memory)
     (and_parts (ltb p places) (ltb (used memory (cells memory)) (cells memory)) (put_clear (plate memory places) p (length bytes) free).2).1
 
 -- a put that no row refuses, which has written mark and record into the cell after the used ones

@@ -1,18 +1,18 @@
 -- Trays are shelves.
-use Rattle.std.proofs.Common.{◌≡◌, ℕ, ◌+◌, ◌*◌, ◌<◌, ◌≤◌, true, ltb, ◌⊎◌, List, length, drop, Ok, sym, refl, ap, ◌∙◌, subst, inl, inr, ⊎_elim, arith}
+use Rattle.std.proofs.Common.{◌≡◌, ℕ, ◌+◌, ◌*◌, ◌<◌, ◌≤◌, true, ltb, ◌⊎◌, List, length, drop, Ok, sym, ap, subst, inl, inr, ⊎_elim, arith}
 use Rattle.std.proofs.lemmas.List.{length-take, length-drop}
-use Rattle.std.proofs.lemmas.Bool.{ltb_true, cases_lt}
+use Rattle.std.proofs.lemmas.Bool.{ltb-true, cases_lt}
 use Rattle.faults.specs.Tables.{Clear}
 use Rattle.octets.specs.Octets.{part, written}
 use Rattle.octets.proofs.Writes.{length-written, drop-written, part-written, part_below, part_above}
-use Rattle.shelf.specs.Meaning.{Lawful, Placed, Puts, put_table}
+use Rattle.shelf.specs.Meaning.{Lawful, Puts, put_table}
 use Rattle.shelf.specs.Trays.{tray, tray_places, TrayStores}
 use Rattle.shelf.proofs.Tables.{put_clear, put_done}
 
 pub tray_lawful : (memory : List ℕ) → Lawful (tray memory)
 tray_lawful memory = record {
   few = omega arith;
-  inside = λ p o. ltb_true p (tray_places (length memory)) o;
+  inside = λ p o. ltb-true p (tray_places (length memory)) o;
   whole = λ p h. simp (length-take, length-drop) (omega arith);
 }
 

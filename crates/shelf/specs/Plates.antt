@@ -1,9 +1,10 @@
 -- A plate: cells of 1,026 bytes, a mark and a record, each written once, one after another. What is left of the memory is spare.
-use Rattle.std.specs.Prelude.{◌≡◌, ℕ, zero, suc, ◌+◌, ◌*◌, ◌/◌, ◌<◌, ◌≤◌, min, Bool, cond, ◌&&◌, List, [], ◌∷◌, ◌++◌, length, drop, Some, None, Ok, Err, Option, Result, ◌==◌, nat_lt, slice_index}
+use Rattle.std.specs.Prelude.{◌≡◌, ℕ, zero, suc, ◌+◌, ◌*◌, ◌/◌, ◌<◌, ◌≤◌, min, cond, ◌&&◌, List, [], ◌∷◌, ◌++◌, length, drop, Some, None, Option, ◌==◌, nat_lt, slice_index}
 use Rattle.faults.specs.Tables.{Table, Not}
 use Rattle.faults.specs.declared.ShelfCause.{ShelfCause}
 use Rattle.faults.specs.declared.ShelfCause.TheVariants.{Unfit}
-use Rattle.octets.specs.Octets.{zeros, part, written, big_endian}
+use Rattle.modes.specs.Bytes.{zeros, big_endian}
+use Rattle.octets.specs.Octets.{part, written}
 use Rattle.shelf.specs.Meaning.{Meaning}
 
 -- how many cells a memory of so many bytes has

@@ -1,3 +1,5 @@
+#![tactic(auto)]
+
 ghost use Rattle.std.specs.Prelude.{◌≡◌, ℕ, List, length, Some, None, MatchResult};
 ghost use Rattle.shelf.specs.Meaning.{Meaning, Lawful, Gets, Puts, Answers, get_table, put_table};
 

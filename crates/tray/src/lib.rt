@@ -1,3 +1,5 @@
+#![tactic(auto)]
+
 ghost use Rattle.std.specs.Prelude.{◌≡◌};
 ghost use Rattle.shelf.specs.Trays.{tray, tray_places, TrayStores};
 ghost use Rattle.shelf.proofs.Trays.{tray_lawful};

@@ -1,7 +1,7 @@
 use Rattle.std.proofs.Common.{◌≡◌, [], ◌∷◌, ◌++◌, length, get_or, sym, ap, ◌∙◌, ap₂, arith}
 use Rattle.std.proofs.lemmas.List.{take_more, take_all, replicate_more}
-use Rattle.octets.specs.Octets.{zeros}
-use Rattle.octets.proofs.Bytewise.{get_or-zeros}
+use Rattle.modes.specs.Bytes.{zeros}
+use Rattle.modes.proofs.Texts.{get_or-zeros}
 use Rattle.octets.proofs.is_zero.Goals as goal
 
 pub returns-then-b-ne0 : goal.returns-then-b-ne0

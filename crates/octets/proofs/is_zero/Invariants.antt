@@ -1,5 +1,5 @@
 use Rattle.std.proofs.Common.{◌≡◌, take}
-use Rattle.octets.specs.Octets.{zeros}
+use Rattle.modes.specs.Bytes.{zeros}
 use Rattle.octets.proofs.is_zero.Given as goal
 
 abbrev pub invariant-loop-b : goal.invariant-loop-b

@@ -1,4 +1,4 @@
-use Rattle.std.proofs.Common.{◌≡◌, ◌++◌, codes, ap, ◌∙◌}
+use Rattle.std.proofs.Common.{◌++◌, codes, ap, ◌∙◌}
 use Rattle.hexadecimal.specs.Hex.{spelled}
 use Rattle.desk.proofs.digests.digest_line.Goals as goal
 

@@ -1,4 +1,4 @@
-use Rattle.std.proofs.Common.{◌≡◌, Err, vec_items, sym, ap, ◌∙◌, subst, arith}
+use Rattle.std.proofs.Common.{Err, vec_items, sym, ap, ◌∙◌, subst, arith}
 use Rattle.std.proofs.lemmas.Result.{err_from_is_err_and}
 use Rattle.saturnin.specs.Rounds.{forward}
 use Rattle.locked.specs.Locked.{Holds}

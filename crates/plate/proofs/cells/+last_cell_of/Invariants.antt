@@ -1,4 +1,4 @@
 use Rattle.plate.proofs.cells.+last_cell_of.Given as goal
 
-abbrev pub decreases-last-cell-of : goal.decreases-last-cell-of
-decreases-last-cell-of l = l.n
+abbrev pub decreases-last_cell_of : goal.decreases-last_cell_of
+decreases-last_cell_of l = l.n

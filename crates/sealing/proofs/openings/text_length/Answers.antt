@@ -1,14 +1,13 @@
-use Rattle.std.proofs.Common.{◌≡◌, ◌≤◌, length, sym, refl, ap, ◌∙◌, subst, inl, inr, arith}
+use Rattle.std.proofs.Common.{sym, refl, ap, ◌∙◌, arith}
 use Rattle.faults.specs.Tables.{Not}
-use Rattle.octets.specs.Octets.{zeros}
-use Rattle.sheets.specs.Records.{empty}
+use Rattle.modes.specs.Bytes.{zeros}
 use Rattle.sheets.specs.Sheets.{WellFormed}
 use Rattle.sealing.proofs.Forms.{well_formed, not_formed}
 use Rattle.sealing.proofs.openings.text_length.Goals as goal
-use Rattle.sealing.proofs.openings.text_length.Goals.{then-n-gt928-via-then-n-gt928, then-n-gt928-via-else-n-gt928+then-not-is-zero}
+use Rattle.sealing.proofs.openings.text_length.Goals.{then-n-gt928-via-then-n-gt928, then-n-gt928-via-else-n-gt928+then-not-is_zero}
 
-pub returns-then-is-zero : goal.returns-then-is-zero
-returns-then-is-zero c = (λ h. refl, λ h. absurd (h (c.if-is-zero.ensures ∙ ap zeros c.requires)))
+pub returns-then-is_zero : goal.returns-then-is_zero
+returns-then-is_zero c = (λ h. refl, λ h. absurd (h (c.if-is_zero.ensures ∙ ap zeros c.requires)))
 
 pub returns-then-n-gt928 : goal.returns-then-n-gt928
 returns-then-n-gt928 c =
@@ -16,14 +15,14 @@ returns-then-n-gt928 c =
     let n = c.length_in-n.result in
     let unfit : Not (WellFormed bytes) = elim c.then-n-gt928.branch [
       | then-n-gt928-via-then-n-gt928 w ↦ λ h. omega (arith, w.if-n-gt928.true, c.length_in-n.ensures, h.0)
-      | then-n-gt928-via-else-n-gt928+then-not-is-zero w ↦ not_formed bytes n c.requires c.length_in-n.ensures w.if-n-gt928.false w.if-not-is-zero.ensures
+      | then-n-gt928-via-else-n-gt928+then-not-is_zero w ↦ not_formed bytes n c.requires c.length_in-n.ensures w.if-n-gt928.false w.if-not-is_zero.ensures
     ] in
-    (λ e. absurd (c.if-is-zero.ensures (e ∙ ap zeros (sym c.requires))), λ h. (λ k. refl, λ k. absurd (k unfit)))
+    (λ e. absurd (c.if-is_zero.ensures (e ∙ ap zeros (sym c.requires))), λ h. (λ k. refl, λ k. absurd (k unfit)))
 
 pub returns : goal.returns
 returns c =
     let bytes = c.args.bytes.now in (
       c.length_in-n.ensures,
-      λ e. c.if-is-zero.ensures (e ∙ ap zeros (sym c.requires)),
-      well_formed bytes c.length_in-n.result c.requires c.length_in-n.ensures c.if-n-gt928.false c.if-not-is-zero.ensures,
+      λ e. c.if-is_zero.ensures (e ∙ ap zeros (sym c.requires)),
+      well_formed bytes c.length_in-n.result c.requires c.length_in-n.ensures c.if-n-gt928.false c.if-not-is_zero.ensures,
     )

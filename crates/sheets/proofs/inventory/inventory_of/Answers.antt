@@ -1,11 +1,11 @@
-use Rattle.std.proofs.Common.{◌≡◌, ℕ, ◌<◌, vec_items, sym, refl, ap, ◌∙◌, subst, arith}
+use Rattle.std.proofs.Common.{◌≡◌, ℕ, ◌<◌, vec_items, sym, ap, ◌∙◌, subst, arith}
 use Rattle.std.proofs.lemmas.List.{length-replicate}
-use Rattle.octets.specs.Octets.{zeros}
+use Rattle.modes.specs.Bytes.{zeros}
 use Rattle.shelf.proofs.Tables.{got}
 use Rattle.sheets.proofs.Counting.{entered, skipped}
 use Rattle.sheets.specs.Inventory.{Inventory, nothing}
 use Rattle.sheets.proofs.inventory.inventory_of.Goals as goal
-use Rattle.sheets.proofs.inventory.inventory_of.Goals.{then-not-is-zero+in_ok-push, else-not-is-zero}
+use Rattle.sheets.proofs.inventory.inventory_of.Goals.{then-not-is_zero+in_ok-push, else-not-is_zero}
 
 pub loop-place-init : goal.loop-place-init
 loop-place-init g c = subst (Inventory (g.S.Shelf.meaning c.args.shelf.now) 0) (sym c.new-entries.ensures.items) nothing
@@ -17,7 +17,7 @@ loop-place-preserved g c =
     let p = c.loop-place.place in
     let inside : p < m.count = omega (arith, c.count-place-end.ensures, c.loop-place-test.true) in
     let b : c.get.new.buffer ≡ m.bytes p = got m p (zeros 1024) c.get.new.buffer c.get.result (length-replicate {A = ℕ} 1024 0) inside c.get.ensures in
-    elim c.if-not-is-zero.branch [
-      | then-not-is-zero+in_ok-push w ↦ entered m lawful p inside _ b (vec_items c.loop-place.entries) _ c.loop-place.invariant w.if-not-is-zero.ensures _ w.number-in-number.ensures (ap vec_items w.entries-is ∙ w.in_ok-push.ensures.items)
-      | else-not-is-zero w ↦ skipped m lawful p inside _ b (vec_items c.loop-place.entries) _ c.loop-place.invariant w.if-not-is-zero.ensures (ap vec_items w.entries-is)
+    elim c.if-not-is_zero.branch [
+      | then-not-is_zero+in_ok-push w ↦ entered m lawful p inside _ b (vec_items c.loop-place.entries) _ c.loop-place.invariant w.if-not-is_zero.ensures _ w.number_in-number.ensures (ap vec_items w.entries-is ∙ w.in_ok-push.ensures.items)
+      | else-not-is_zero w ↦ skipped m lawful p inside _ b (vec_items c.loop-place.entries) _ c.loop-place.invariant w.if-not-is_zero.ensures (ap vec_items w.entries-is)
     ]

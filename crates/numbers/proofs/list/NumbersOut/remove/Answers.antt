@@ -1,4 +1,4 @@
-use Rattle.std.proofs.Common.{◌≡◌, ◌-◌, ◌<◌, ◌≤◌, length, take, sym, ap, ◌∙◌, subst, arith, rules}
+use Rattle.std.proofs.Common.{◌≡◌, ◌-◌, ◌<◌, length, take, ap, ◌∙◌, subst, arith, rules}
 use Rattle.numbers.proofs.Places.{Moved, listed-length, moved_more, moved_all}
 use Rattle.numbers.proofs.list.NumbersOut.remove.Goals as goal
 

@@ -9,8 +9,8 @@ returns c =
       λ unfit. absurd (unfit (record {
         some = omega arith;
         few = omega arith;
-        marks = c.if-not-marks-fit.ensures;
-        order = no_gap memory (cells memory) c.if-has-gap.ensures;
+        marks = c.if-not-marks_fit.ensures;
+        order = no_gap memory (cells memory) c.if-has_gap.ensures;
       })),
       λ fit. refl,
     )

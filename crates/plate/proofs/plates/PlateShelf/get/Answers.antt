@@ -1,8 +1,8 @@
-use Rattle.std.proofs.Common.{◌≡◌, ◌+◌, ◌*◌, length, Some, None, sym, ap, ◌∙◌, arith}
-use Rattle.octets.specs.Octets.{zeros}
+use Rattle.std.proofs.Common.{◌+◌, ◌*◌, length, Some, None, sym, ap, ◌∙◌, arith}
+use Rattle.modes.specs.Bytes.{zeros}
 use Rattle.octets.proofs.Writes.{part_is}
 use Rattle.shelf.specs.Meaning.{get_table}
-use Rattle.shelf.specs.Plates.{cells, held, last_cell, plate}
+use Rattle.shelf.specs.Plates.{cells, held, plate}
 use Rattle.shelf.proofs.Cells.{last_is}
 use Rattle.shelf.proofs.Tables.{clear, get_clear, get_done}
 use Rattle.plate.proofs.plates.PlateShelf.get.Goals as goal
@@ -13,7 +13,7 @@ returns-in-Some c =
     let shown = plate memory c.args.self.now.places in
     let place = c.args.place in
     let buffer = c.args.buffer.now in
-    let free = clear (get_table shown place (length buffer)) None tt c.in_ok-allows-get.ensures in
+    let free = clear (get_table shown place (length buffer)) None tt c.in_ok-allows_get.ensures in
     let j = c.in-Some.j in
     let found = c.in-Some.ensures.inside (get_clear shown place (length buffer) free).1 in
     get_done shown place buffer _ free (
@@ -26,7 +26,7 @@ returns-in-None c =
     let shown = plate memory c.args.self.now.places in
     let place = c.args.place in
     let buffer = c.args.buffer.now in
-    let free = clear (get_table shown place (length buffer)) None tt c.in_ok-allows-get.ensures in
+    let free = clear (get_table shown place (length buffer)) None tt c.in_ok-allows_get.ensures in
     let ok = get_clear shown place (length buffer) free in
     let found = c.in-None.ensures.inside ok.1 in
     get_done shown place buffer _ free (c.wipe.ensures ∙ ap zeros ok.0 ∙ ap (held memory) (sym (last_is memory place (cells memory) None found)))
