@@ -1,2 +1,3 @@
+mod Nibbles
 mod Loads
 mod Steps

@@ -1,3 +1,2 @@
 pub mod Nibbles
 pub mod Parts
-pub mod NibblesLemmas

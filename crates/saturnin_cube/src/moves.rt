@@ -1,9 +1,10 @@
 ghost use Rattle.std.specs.Prelude.{◌≡◌, ◌+◌, ◌*◌, ◌<◌, length};
-ghost use Rattle.std.proofs.Common.{◌∙◌, ap};
 ghost use Rattle.saturnin_cube.specs.Nibbles.{nibbles};
 ghost use Rattle.saturnin_cube.specs.Parts.{moved_by, source_of};
 ghost use Rattle.saturnin.proofs.Tables.{length-table};
-ghost use Rattle.saturnin_cube.specs.NibblesLemmas.{moved_is};
+ghost use Rattle.saturnin.specs.Layers.{SR_slice, SR_slice⁻¹, SR_sheet, SR_sheet⁻¹};
+ghost use Rattle.saturnin.specs.Rounds.{rotated};
+ghost use Rattle.saturnin_cube.specs.declared.moves.Move.TheVariants.{Slices, SlicesBack, Sheets, SheetsBack, Rotation};
 
 use crate::rows::{Rows, cube_of};
 use crate::shape::{Cube, Row};
@@ -47,7 +48,13 @@ struct Moved {
 impl Rows for Moved {
     ghost whole = { λ s. moved_by s.by (nibbles s.of) };
 
-    ghost size = { λ s. ap length (moved_is s.by _) ∙ length-table 64 _ };
+    ghost size = { λ s. elim s.by as (λ by. length (moved_by by (nibbles s.of)) ≡ 64) [
+      | Slices ↦ unfold SR_slice in length-table 64 _
+      | SlicesBack ↦ unfold SR_slice⁻¹ in length-table 64 _
+      | Sheets ↦ unfold SR_sheet in length-table 64 _
+      | SheetsBack ↦ unfold SR_sheet⁻¹ in length-table 64 _
+      | Rotation ↦ unfold rotated in length-table 64 _
+    ] };
 
     fn row(&self, b: usize) -> Row {
         Row {

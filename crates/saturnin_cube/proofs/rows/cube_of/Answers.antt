@@ -1,5 +1,5 @@
 use Rattle.std.proofs.Common.{◌<◌, length, ◌∙◌, arith, length-set}
-use Rattle.saturnin_cube.specs.NibblesLemmas.{filled, filled_more}
+use Rattle.saturnin_cube.proofs.Nibbles.{filled, filled_more}
 use Rattle.saturnin_cube.proofs.rows.cube_of.Goals as goal
 
 pub loop-b-preserved : goal.loop-b-preserved

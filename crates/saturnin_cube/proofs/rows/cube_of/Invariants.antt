@@ -1,5 +1,5 @@
 use Rattle.std.proofs.Common.{◌≡◌, length}
-use Rattle.saturnin_cube.specs.NibblesLemmas.{Filled}
+use Rattle.saturnin_cube.proofs.Nibbles.{Filled}
 use Rattle.saturnin_cube.proofs.rows.cube_of.Given as goal
 
 abbrev pub invariant-loop-b : goal.invariant-loop-b

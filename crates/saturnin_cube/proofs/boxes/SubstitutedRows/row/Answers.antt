@@ -2,7 +2,7 @@ use Rattle.std.proofs.Common.{◌≡◌, ℕ, ◌+◌, ◌*◌, ◌%◌, ◌<◌
 use Rattle.saturnin.specs.Cube.{at}
 use Rattle.saturnin_cube.specs.Nibbles.{nibbles}
 use Rattle.saturnin_cube.specs.Parts.{substituted}
-use Rattle.saturnin_cube.specs.NibblesLemmas.{at_index, read, row_is}
+use Rattle.saturnin_cube.proofs.Nibbles.{at_index, read, row_is}
 use Rattle.saturnin_cube.proofs.boxes.SubstitutedRows.row.Goals as goal
 
 at_box : (even odd s : List ℕ) (b y v : ℕ) → b < 16 → y < 4 → v ≡ at s (4 * b + y)

@@ -1,7 +1,7 @@
 use Rattle.std.proofs.Common.{◌≡◌, ℕ, ◌+◌, ◌*◌, ◌<◌, List, ◌∙◌, arith}
 use Rattle.saturnin.specs.Cube.{at}
 use Rattle.saturnin_cube.specs.Parts.{nibble_in, unpacked}
-use Rattle.saturnin_cube.specs.NibblesLemmas.{at_row, row_is}
+use Rattle.saturnin_cube.proofs.Nibbles.{at_row, row_is}
 use Rattle.saturnin_cube.proofs.bytes.RegistersRows.row.Goals as goal
 
 at_registers : (registers : List ℕ) (b y v : ℕ) → b < 16 → y < 4 → v ≡ nibble_in registers b y → v ≡ at (unpacked registers) (4 * b + y)

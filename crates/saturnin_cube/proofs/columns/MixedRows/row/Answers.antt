@@ -4,7 +4,7 @@ use Rattle.saturnin.specs.Cube.{at}
 use Rattle.saturnin.specs.Layers.{α, M_row, MC}
 use Rattle.saturnin.proofs.Matrix.{row0, row1, row2, row3}
 use Rattle.saturnin_cube.specs.Nibbles.{nibbles}
-use Rattle.saturnin_cube.specs.NibblesLemmas.{column_is, read, row_is}
+use Rattle.saturnin_cube.proofs.Nibbles.{column_is, read, row_is}
 use Rattle.saturnin_cube.proofs.columns.MixedRows.row.Goals as goal
 
 pub returns : goal.returns

@@ -2,7 +2,7 @@ use Rattle.std.proofs.Common.{◌≡◌, ℕ, ◌<◌, get_or, ◌∙◌, arith}
 use Rattle.saturnin.specs.Cube.{at}
 use Rattle.saturnin.specs.Back.{M⁻¹_row, MC⁻¹}
 use Rattle.saturnin_cube.specs.Nibbles.{nibbles}
-use Rattle.saturnin_cube.specs.NibblesLemmas.{column_is, read, row_is}
+use Rattle.saturnin_cube.proofs.Nibbles.{column_is, read, row_is}
 use Rattle.saturnin_cube.proofs.columns.UnmixedRows.row.Goals as goal
 
 pub returns : goal.returns

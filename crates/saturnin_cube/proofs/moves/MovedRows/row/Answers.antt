@@ -5,7 +5,7 @@ use Rattle.saturnin_cube.specs.Parts.{moved_by, source_of}
 use Rattle.saturnin_cube.specs.declared.shape.Cube.{Cube}
 use Rattle.saturnin_cube.specs.declared.shape.Row.{Row}
 use Rattle.saturnin_cube.specs.declared.moves.Move.{Move}
-use Rattle.saturnin_cube.specs.NibblesLemmas.{at_index, read, row_is, moved_is}
+use Rattle.saturnin_cube.proofs.Nibbles.{at_index, read, row_is, moved_is}
 use Rattle.saturnin_cube.proofs.moves.MovedRows.row.Goals as goal
 
 from_row : (c : Cube) (m : Move) (b y r : ℕ) (d : Row) → b < 16 → y < 4 → r < 16 → 4 * r + y ≡ source_of m (4 * b + y)

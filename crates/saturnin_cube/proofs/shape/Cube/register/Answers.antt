@@ -2,7 +2,7 @@ use Rattle.std.proofs.Common.{◌≡◌, ◌+◌, ◌*◌, ◌/◌, ◌%◌, ◌
 use Rattle.saturnin.specs.Bits.{bit, number}
 use Rattle.saturnin.specs.Cube.{at, cube_register}
 use Rattle.saturnin_cube.specs.Nibbles.{nibbles}
-use Rattle.saturnin_cube.specs.NibblesLemmas.{read}
+use Rattle.saturnin_cube.proofs.Nibbles.{read}
 use Rattle.saturnin_cube.proofs.Loads.{Has_bits, bit_in, bit_more}
 use Rattle.saturnin_cube.proofs.shape.Cube.register.Goals as goal
 

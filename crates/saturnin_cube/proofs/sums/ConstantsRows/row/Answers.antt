@@ -2,7 +2,7 @@ use Rattle.std.proofs.Common.{[], ◌∷◌, ◌∙◌, arith}
 use Rattle.saturnin.specs.Bits.{bit}
 use Rattle.saturnin.specs.Cube.{at}
 use Rattle.saturnin.specs.Rounds.{constants}
-use Rattle.saturnin_cube.specs.NibblesLemmas.{at_row, row_is}
+use Rattle.saturnin_cube.proofs.Nibbles.{at_row, row_is}
 use Rattle.saturnin_cube.proofs.sums.ConstantsRows.row.Goals as goal
 
 pub returns : goal.returns

@@ -3,7 +3,7 @@ use lib.Bits.{bit_xor}
 use Rattle.saturnin.specs.Cube.{at}
 use Rattle.saturnin.specs.Layers.{add}
 use Rattle.saturnin_cube.specs.Nibbles.{nibbles}
-use Rattle.saturnin_cube.specs.NibblesLemmas.{at_index, read, row_is}
+use Rattle.saturnin_cube.proofs.Nibbles.{at_index, read, row_is}
 use Rattle.saturnin_cube.proofs.sums.SumRows.row.Goals as goal
 
 pub returns : goal.returns
