@@ -1,6 +1,6 @@
 #!/bin/sh
 # Uses of chains that the types must refuse: each is put into a copy of `modes`, and must give the named error.
-# Run after `rt check modes`, from the repository's folder.
+# Run after `(cd crates/modes && rt check)`, from the repository's folder.
 set -u
 home=$PWD
 folder=$(mktemp -d)
@@ -9,9 +9,9 @@ failed=0
 # refuse NAME ERROR NEW-LINES: the last two lines of `tag_of` become the new ones
 refuse() {
     rm -rf "$folder/work" && mkdir "$folder/work"
-    cp -r "$home/crates" "$home/crates.txt" "$home/target" "$folder/work/"
+    tar c -C "$home" --exclude=out crates crates.txt | tar x -C "$folder/work"
     sed -i "s|^    text_chain.text(text);\$|$3|" "$folder/work/crates/modes/src/cascade.rt"
-    (cd "$folder/work" && rt dev modes) > "$folder/said" 2>&1
+    (cd "$folder/work/crates/modes" && rt check) > "$folder/said" 2>&1
     if grep -q "cascade.rt.*$2" "$folder/said"; then
         echo "ok: $1"
     else

@@ -1,8 +1,8 @@
 #!/bin/sh
 # What the program does with what it refuses: messages, status, that the other files are still hashed, that nothing is written.
-# Run after `rt check majgunter`, from the repository's folder.
+# Run after `(cd crates/majgunter && rt run -- help)`, which builds the program, from the repository's folder.
 set -u
-program=$PWD/target/bin/majgunter
+program=$PWD/crates/majgunter/out/majgunter
 folder=$(mktemp -d) && cd "$folder" || exit 1
 head -c 65536 /dev/zero > full
 head -c 65537 /dev/zero > over
