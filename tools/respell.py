@@ -12,7 +12,6 @@ import re
 import sys
 
 WORD = r"[^\W\d][\w'⁻¹₀-₉]*"
-NAME = re.compile(rf"(?<![\w'·.-])({WORD}(?:-[\w'⁻¹₀-₉]+)+)(?![\w'-])")
 TOKEN = re.compile(rf"(?<![\w'-])({WORD}(?:-[\w'⁻¹₀-₉]+)+)(?![\w'-])")
 STD = {"length", "get_or", "take", "drop", "append", "bit_xor", "map", "replicate", "set", "zero", "pow", "suc"}
 MADE = re.compile(r"^(returns|loop|then|else|if|in|in_ok|in_err|overflow|bounds|nonzero|index|invariant|decreases|type|to|from|push|branch)-")

@@ -1,4 +1,4 @@
--- What `majgunter shelf plate` tells of an image.
+-- What the command `shelf plate` tells of an image.
 use Rattle.std.specs.Prelude.{◌≡◌, ℕ, List, None, Ok, Err, Result}
 use Rattle.faults.specs.Tables.{Not}
 use Rattle.faults.specs.declared.ShelfCause.TheVariants.{Unfit}

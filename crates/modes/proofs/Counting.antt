@@ -16,7 +16,7 @@ spelt-xor (x ∷ a) (y ∷ b) l p q h k =
     ap (spelt (xor a b)) (sym (xor_block 8 h k x y (p 0) (q 0)))
     ∙ spelt-xor a b (omega arith) (λ i. p (suc i)) (λ i. q (suc i)) (h * 256 + x) (k * 256 + y)
 
-pub spelt-append : (a b : List ℕ) (h : ℕ) → spelt (a ++ b) h ≡ spelt b (spelt a h)
+spelt-append : (a b : List ℕ) (h : ℕ) → spelt (a ++ b) h ≡ spelt b (spelt a h)
 unfolding spelt
 spelt-append [] b h = refl
 spelt-append (x ∷ a) b h = spelt-append a b (h * 256 + x)

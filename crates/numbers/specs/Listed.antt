@@ -1,5 +1,5 @@
 -- The numbers that a list of them holds.
-use Rattle.std.specs.Prelude.{◌≡◌, ℕ, ◌<◌, List, length, take, Some, None, Option, slice_index, slice_index_or}
+use Rattle.std.specs.Prelude.{◌≡◌, ℕ, ◌<◌, List, length, take, Some, None, Option, slice_index}
 use Rattle.faults.specs.Tables.{Not}
 use Rattle.numbers.specs.declared.list.NumbersOut.{NumbersOut}
 
@@ -9,7 +9,7 @@ listed o = take o.len o.items
 -- the first place at which a number stands
 pub record First (n : ℕ) (xs : List ℕ) (i : ℕ) : Type 0 where
   pub within : i < length xs
-  pub here : slice_index_or xs i 0 ≡ n
+  pub here : slice_index xs i ≡ n
   pub before : (k : ℕ) → k < i → Not (slice_index xs k ≡ n)
 
 abbrev pub Sought : ℕ → List ℕ → Option ℕ → Type 0

@@ -1,4 +1,4 @@
--- The cipher turned back, step by step. The law above it is `Two-way` of `Meaning`: back gives the only block that forward
+-- The cipher turned back, step by step. The law above it is `TwoWay` of `Meaning`: back gives the only block that forward
 -- takes to the given one.
 use Rattle.std.specs.Prelude.{ℕ, zero, suc, ◌+◌, ◌*◌, ◌/◌, ◌%◌, cond, List, [], ◌∷◌, ◌==◌, bit_xor}
 use Rattle.saturnin.specs.Bits.{bit, nibble}

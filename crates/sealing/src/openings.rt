@@ -1,6 +1,6 @@
 ghost use Rattle.std.specs.Prelude.{◌≡◌, ◌+◌, ◌≤◌, length, None, Ok, Err, MatchResult};
 ghost use Rattle.faults.specs.Tables.{By, Not};
-ghost use Rattle.sheets.specs.Records.{empty, number_in as number_of_lem};
+ghost use Rattle.sheets.specs.Records.{empty, number_in as number_of};
 ghost use Rattle.sheets.specs.Sheets.{length_in as length_of, WellFormed};
 ghost use Rattle.sealing.specs.Sealing.{form_table, open_sheet_table, opened as opened_bytes, OpensSheet};
 

@@ -1,9 +1,9 @@
 ghost use Rattle.std.specs.Prelude.{◌≡◌};
-ghost use Rattle.sheets.specs.Records.{number_in as number_of_lem};
+ghost use Rattle.sheets.specs.Records.{number_in as number_of};
 
 // The number of a record, which is not opened for it.
 pub fn number_in(bytes: &[u8; 1024]) -> u64
-    ensures { result ≡ number_of_lem bytes.now }
+    ensures { result ≡ number_of bytes.now }
 {
     let mut number = [0; 8];
     number.copy_from_slice(&bytes[8..16]);
