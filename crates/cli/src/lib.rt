@@ -1,5 +1,8 @@
 #![tactic(auto)]
 
+ghost use Rattle.std.specs.Prelude.{◌↔◌, map, IfOk, IsOk, IsTrue, string_bytes};
+ghost use Rattle.cli.specs.Commands.{IsHelp, IsShelf, IsCommand};
+
 mod commands;
 mod files;
 mod locks;
@@ -15,7 +18,10 @@ use shelves::{plate_told, tray_told};
 use std::io;
 
 // One command of the program, in words. Whether all was done.
-pub fn run(rt: &HostRuntime, words: &[String]) -> io::Result<bool> {
+pub fn run(rt: &HostRuntime, words: &[String]) -> io::Result<bool>
+    ensures help { IsHelp (map string_bytes words.now) → IfOk result IsTrue }
+    ensures commands { IfOk result (λ done. IsTrue done → IsCommand (map string_bytes words.now)) }
+{
     match words {
         [first] if first.as_str() == "help" || first.as_str() == "--help" => {
             println!(rt; "{USAGE}")?;
@@ -64,7 +70,9 @@ fn hash_file(rt: &HostRuntime, name: &str) -> Result<String, Problem> {
     Ok(digest_line(rt.alloc(), name, &bytes)?)
 }
 
-fn show_shelf(rt: &HostRuntime, words: &[String]) -> io::Result<bool> {
+fn show_shelf(rt: &HostRuntime, words: &[String]) -> io::Result<bool>
+    ensures { IfOk result (λ done. IsTrue done → IsShelf (map string_bytes words.now)) }
+{
     let (file, report) = match words {
         [kind, file] if kind.as_str() == "tray" => (file, tray_told(rt, file.as_str())),
         [kind, file, places] if kind.as_str() == "plate" => {
@@ -90,7 +98,9 @@ fn told(
     command: Command,
     name: &str,
     done: Result<(), Problem>,
-) -> io::Result<bool> {
+) -> io::Result<bool>
+    ensures { IfOk result (λ all. IsTrue all ↔ IsOk done) }
+{
     let Err(problem) = done else {
         return Ok(true);
     };
