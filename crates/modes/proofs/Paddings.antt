@@ -36,7 +36,7 @@ module _ (s m : List ℕ) (e : s ≡ padded (length s) m) where
   pub none_found : length m < length s → ((j : ℕ) → j < length s → get_or s j 0 ≡ 0) → ⊥
   none_found l z = omega (arith, here, z (length m) l)
 
-  pub other_found : (n : ℕ) → length m < length s → ((j : ℕ) → n < j → j < length s → get_or s j 0 ≡ 0) → (get_or s n 0 ≡ 128 → ⊥) → (get_or s n 0 ≡ 0 → ⊥) → ⊥
+  other_found : (n : ℕ) → length m < length s → ((j : ℕ) → n < j → j < length s → get_or s j 0 ≡ 0) → (get_or s n 0 ≡ 128 → ⊥) → (get_or s n 0 ≡ 0 → ⊥) → ⊥
   other_found n l z p q =
       elim (cases_lt (length m) n) [
         | inl h ↦ q (after n h)
@@ -45,6 +45,10 @@ module _ (s m : List ℕ) (e : s ≡ padded (length s) m) where
           | inr k ↦ let d : n ≡ length m = omega arith in p (ap (λ i. get_or s i 0) d ∙ here)
         ]
       ]
+
+pub no_padding : (s : List ℕ) (n : ℕ) → ((j : ℕ) → n < j → j < length s → get_or s j 0 ≡ 0) → (get_or s n 0 ≡ 128 → ⊥) → (get_or s n 0 ≡ 0 → ⊥)
+    → (m : List ℕ) → length m < length s → s ≡ padded (length s) m → ⊥
+no_padding s n z p q m l e = other_found s m e n l z p q
 
 -- a block that begins with the nonce has a padded message after it or none
 module _ (nonce plain : List ℕ) (l : length nonce ≡ 16) (k : length plain ≡ 32) where

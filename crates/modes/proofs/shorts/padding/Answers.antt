@@ -1,6 +1,6 @@
 use Rattle.std.proofs.Common.{ℕ, ◌-◌, arith, rules}
 use Rattle.modes.proofs.Texts.{is_padded}
-use Rattle.modes.proofs.Paddings.{none_found, other_found}
+use Rattle.modes.proofs.Paddings.{none_found, no_padding}
 use Rattle.modes.proofs.shorts.padding.Goals as goal
 
 pub returns-then-s-i : goal.returns-then-s-i
@@ -10,10 +10,9 @@ returns-then-s-i c =
     (omega arith, is_padded s n (omega arith) (search rules) (λ j h k. c.loop-i.invariant j (omega arith) k))
 
 pub returns-then-s-i-ne0 : goal.returns-then-s-i-ne0
-returns-then-s-i-ne0 c m l e =
-    let s = c.args.s.now in
+returns-then-s-i-ne0 c =
     let n : ℕ = c.loop-i.i - 1 in
-    other_found s m e n l (λ j h k. c.loop-i.invariant j (omega arith) k) (search rules) (search rules)
+    no_padding c.args.s.now n (λ j h k. c.loop-i.invariant j (omega arith) k) (search rules) (search rules)
 
 pub returns : goal.returns
 returns c m l e = none_found c.args.s.now m e l (λ j h. c.loop-i.invariant j (omega arith) h)
