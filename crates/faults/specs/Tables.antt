@@ -1,6 +1,8 @@
 -- Tables of refusals. A call has one table and one result: the topmost row that applies gives the cause of the refusal,
 -- and where no row applies the call is done.
-use Rattle.std.specs.Prelude.{List, [], ◌∷◌}
+use Rattle.std.specs.Prelude.{◌≡◌, List, [], ◌∷◌, MatchResult, Result}
+use Rattle.faults.specs.declared.ModeCause.{ModeCause}
+use Rattle.faults.specs.declared.ModeFault.{ModeFault}
 
 abbrev pub Not : Type 0 → Type 0
 Not P = P → ⊥
@@ -18,3 +20,7 @@ By (row ∷ rows) refused done = (row.0 → refused row.1) × (Not row.0 → By 
 abbrev pub Clear : {Cause : Type 0} → Table Cause → Type 0
 Clear [] = Unit {0}
 Clear (row ∷ rows) = Not row.0 × Clear rows
+
+-- a check before a call of a mode: it gives what the call goes on with, of which Fit is true, or refuses by the table
+abbrev pub Checks : {A : Type 0} → Table ModeCause → (Fit : A → Type 0) → Result A ModeFault → Type 0
+Checks table Fit answer = MatchResult answer Fit (λ fault. By table (λ cause. fault ≡ record { cause = cause }) ⊥)

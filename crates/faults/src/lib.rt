@@ -1,6 +1,6 @@
 #![tactic(auto)]
 
-ghost use Rattle.std.specs.Prelude.{◌≡◌};
+ghost use Rattle.std.specs.Prelude.{◌≡◌, None};
 ghost use Rattle.faults.specs.Causes.{entry, from_mode, from_shelf, placed};
 ghost use Rattle.faults.specs.declared.BoxCause.TheVariants.{Mode, Shelf};
 
@@ -72,16 +72,40 @@ pub struct BoxFault {
     pub place: Option<u32>,
 }
 
+// A fault without a place.
+impl From<ModeCause> for ModeFault {
+    ghost from_gives = { λ c r. r ≡ record { cause = c } };
+
+    fn from(cause: ModeCause) -> ModeFault {
+        ModeFault { cause }
+    }
+}
+
+impl From<ShelfCause> for ShelfFault {
+    ghost from_gives = { λ c r. r ≡ record { cause = c; place = None } };
+
+    fn from(cause: ShelfCause) -> ShelfFault {
+        ShelfFault { cause, place: None }
+    }
+}
+
+impl From<BoxCause> for BoxFault {
+    ghost from_gives = { λ c r. r ≡ record { cause = c; place = None } };
+
+    fn from(cause: BoxCause) -> BoxFault {
+        BoxFault { cause, place: None }
+    }
+}
+
 impl BoxCause {
     pub fn number(self) -> u8
         ensures { result ≡ (entry self).number }
     {
         match self {
-            BoxCause::Mode(ModeCause::Length) => 1,
-            BoxCause::Shelf(ShelfCause::Length) => 1,
-            BoxCause::Length => 1,
-            BoxCause::Mode(ModeCause::Limit) => 2,
-            BoxCause::Limit => 2,
+            BoxCause::Mode(ModeCause::Length)
+            | BoxCause::Shelf(ShelfCause::Length)
+            | BoxCause::Length => 1,
+            BoxCause::Mode(ModeCause::Limit) | BoxCause::Limit => 2,
             BoxCause::Mode(ModeCause::Parameter) => 3,
             BoxCause::Shelf(ShelfCause::Outside) => 4,
             BoxCause::Shelf(ShelfCause::Shut) => 5,
@@ -105,17 +129,19 @@ impl BoxCause {
             _ => 3,
         }
     }
+}
 
-    // What the cause means, in words.
-    fn words(self) -> &'static str {
-        match self {
-            BoxCause::Mode(ModeCause::Length) => "not of its stated length",
-            BoxCause::Shelf(ShelfCause::Length) => "not of its stated length",
-            BoxCause::Length => "not of its stated length",
-            BoxCause::Mode(ModeCause::Limit) => "over its limit",
-            BoxCause::Limit => "over its limit",
-            BoxCause::Mode(ModeCause::Parameter) =>
-                "separator or count of super-rounds out of range",
+// What the cause means, in words.
+impl fmt::Display for BoxCause {
+    fn fmt<W: fmt::Write>(&self, f: &mut fmt::Formatter<W>) -> fmt::Result {
+        let words = match self {
+            BoxCause::Mode(ModeCause::Length)
+            | BoxCause::Shelf(ShelfCause::Length)
+            | BoxCause::Length => "not of its stated length",
+            BoxCause::Mode(ModeCause::Limit) | BoxCause::Limit => "over its limit",
+            BoxCause::Mode(ModeCause::Parameter) => {
+                "separator or count of super-rounds out of range"
+            }
             BoxCause::Shelf(ShelfCause::Outside) => "no such place",
             BoxCause::Shelf(ShelfCause::Shut) => "the place is shut",
             BoxCause::NotOut => "the number is not out in this box",
@@ -126,7 +152,8 @@ impl BoxCause {
             BoxCause::Mode(ModeCause::Tag) => "the tag differs",
             BoxCause::Mode(ModeCause::Slip) => "another nonce or no padding",
             BoxCause::Shelf(ShelfCause::Unfit) => "the plate is unfit",
-        }
+        };
+        f.write_str(words)
     }
 }
 
@@ -164,8 +191,8 @@ impl BoxFault {
         ensures { result ≡ placed place self }
     {
         BoxFault {
-            cause: self.cause,
             place: Some(place),
+            ..self
         }
     }
 }
@@ -201,8 +228,8 @@ impl fmt::Display for BoxFault {
         if let Some(place) = self.place {
             write!(f, ", place {place}")?;
         }
-        let words = self.cause.words();
-        write!(f, ": {words}")
+        let cause = self.cause;
+        write!(f, ": {cause}")
     }
 }
 

@@ -5,7 +5,7 @@ use Rattle.faults.specs.declared.ModeCause.TheVariants.{Tag}
 use Rattle.faults.specs.declared.ModeFault.{ModeFault}
 use Rattle.saturnin.specs.Cube.{at}
 use Rattle.saturnin.specs.Meaning.{Bytes, BlockFunction, GivesBlocks}
-use Rattle.modes.specs.Bytes.{zeros}
+use Rattle.octets.specs.Octets.{zeros}
 use Rattle.modes.specs.Cascade.{ctr, tag, Opens}
 use Rattle.modes.proofs.Texts.{Small, take-bytes}
 use Rattle.modes.proofs.Streams.{ctr_twice}

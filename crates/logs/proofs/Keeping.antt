@@ -9,8 +9,7 @@ use Rattle.faults.specs.Tables.{Clear}
 use Rattle.faults.specs.declared.BoxFault.{BoxFault}
 use Rattle.faults.proofs.Tables.{done_when}
 use Rattle.saturnin.specs.Meaning.{Bytes}
-use Rattle.octets.specs.Octets.{Octets}
-use Rattle.modes.specs.Bytes.{big_endian}
+use Rattle.octets.specs.Octets.{Octets, big_endian}
 use Rattle.modes.proofs.Texts.{append-bytes}
 use Rattle.modes.proofs.Counting.{big_endian_bytes, length-big_endian}
 use Rattle.saturnin.specs.Meaning.{Takes}

@@ -2,8 +2,7 @@
 use Rattle.std.proofs.Common.{◌≡◌, ℕ, ◌+◌, ◌-◌, ◌<◌, ◌≤◌, List, ◌++◌, length, take, drop, Some, None, Ok, Option, Result, sym, refl, ap, ◌∙◌, subst, ap₂, arith}
 use Rattle.std.proofs.lemmas.List.{length-append, length-replicate, take_at, drop_at, append_assoc}
 use Rattle.faults.specs.declared.BoxFault.{BoxFault}
-use Rattle.modes.specs.Bytes.{zeros, big_endian, spelt}
-use Rattle.octets.specs.Octets.{part}
+use Rattle.octets.specs.Octets.{zeros, big_endian, spelt, part}
 use Rattle.modes.proofs.Counting.{length-big_endian, spelt-big_endian, spelt-zeros}
 use Rattle.modes.specs.Cascade.{ctr, tag}
 use Rattle.modes.proofs.Streams.{length-ctr, ctr_twice}

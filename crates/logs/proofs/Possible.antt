@@ -8,8 +8,7 @@ use Rattle.faults.specs.declared.ModeCause.TheVariants.{Slip}
 use Rattle.faults.specs.declared.ShelfCause.TheVariants.{Outside}
 use Rattle.faults.specs.declared.BoxCause.TheVariants.{Mode, Shelf, Length}
 use Rattle.faults.specs.declared.BoxFault.{BoxFault}
-use Rattle.modes.specs.Bytes.{zeros}
-use Rattle.octets.specs.Octets.{part}
+use Rattle.octets.specs.Octets.{zeros, part}
 use Rattle.modes.specs.Cascade.{ctr}
 use Rattle.modes.specs.Bytes.{padded}
 use Rattle.modes.specs.Short.{Holds, filled}

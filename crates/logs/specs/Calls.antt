@@ -7,7 +7,7 @@ use Rattle.faults.specs.declared.ShelfCause.TheVariants.{Outside, Shut}
 use Rattle.faults.specs.declared.BoxCause.{BoxCause}
 use Rattle.faults.specs.declared.BoxCause.TheVariants.{Mode, Shelf, Length, Limit, NotOut, UsedUp, SixteenOut, Empty, Filling}
 use Rattle.faults.specs.declared.BoxFault.{BoxFault}
-use Rattle.modes.specs.Bytes.{zeros}
+use Rattle.octets.specs.Octets.{zeros}
 use Rattle.modes.specs.Cascade.{ctr, tag}
 use Rattle.modes.specs.Short.{Holds, filled}
 use Rattle.shelf.specs.Meaning.{Open, Placed}

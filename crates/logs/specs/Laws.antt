@@ -3,8 +3,7 @@ use Rattle.std.specs.Prelude.{◌≡◌, ℕ, ◌+◌, ◌≤◌, cond, List, []
 use Rattle.std.specs.List.{flat_map}
 use Rattle.faults.specs.declared.BoxCause.TheVariants.{Empty}
 use Rattle.faults.specs.declared.BoxFault.{BoxFault}
-use Rattle.modes.specs.Bytes.{zeros}
-use Rattle.octets.specs.Octets.{part}
+use Rattle.octets.specs.Octets.{zeros, part}
 use Rattle.modes.specs.Short.{filled}
 use Rattle.sheets.specs.Sheets.{label_in}
 use Rattle.logs.specs.States.{Made, State, count}

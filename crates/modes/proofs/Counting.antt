@@ -3,7 +3,8 @@ use Rattle.std.proofs.Common.{◌≡◌, ℕ, zero, suc, ◌+◌, ◌-◌, ◌*�
 use native.Mathlib.Nat.{mul-mul-mul_comm}
 use lib.Bits.{bit_xor, xor_block, xor_shifted}
 use Rattle.std.proofs.lemmas.List.{length-append}
-use Rattle.modes.specs.Bytes.{zeros, xor, padded, big_endian, spelt}
+use Rattle.octets.specs.Octets.{zeros, big_endian, spelt}
+use Rattle.modes.specs.Bytes.{xor, padded}
 use Rattle.modes.specs.Counters.{counter_block, CounterHeld}
 use Rattle.modes.proofs.Texts.{Small, length-xor, append-bytes, length-padded, padded-bytes}
 

@@ -4,7 +4,8 @@ use borrow.Rule.Slice.PartMut.{put_mid, post_of}
 use Rattle.std.proofs.lemmas.List.{length-append, length-drop, length-take, drop-replicate, take_all, take-append-drop, take_at, drop_at}
 use Rattle.std.proofs.lemmas.Slice.{take-put_mid}
 use Rattle.std.proofs.lemmas.Bool.{cases_lt}
-use Rattle.modes.specs.Bytes.{zeros, padded}
+use Rattle.octets.specs.Octets.{zeros}
+use Rattle.modes.specs.Bytes.{padded}
 use Rattle.modes.proofs.Texts.{padded-here, padded_after}
 
 pub front_put : (a n : ℕ) (xs ys zs : List ℕ) → ys ≡ zs → length zs ≡ n → a + n ≤ length xs → take (a + n) (put_mid a (a + n - a) xs ys) ≡ take a xs ++ zs

@@ -4,7 +4,8 @@ use lib.Bits.{bit_xor}
 use native.Mathlib.Nat.{div-div-eq-div-mul}
 use Rattle.std.proofs.lemmas.Bool.{cases_lt}
 use Rattle.std.proofs.lemmas.List.{drop-replicate, set_at, ext_get_or, length-append, length-take, length-replicate, get_or_append_left, get_or-append_right, get_or_at, get_or-replicate, get_or_past, get_or-take}
-use Rattle.modes.specs.Bytes.{zeros, xor, padded, big_endian}
+use Rattle.octets.specs.Octets.{zeros, big_endian}
+use Rattle.modes.specs.Bytes.{xor, padded}
 
 pub length-xor : (a b : List ℕ) → length a ≡ length b → length (xor a b) ≡ length a
 unfolding xor

@@ -1,8 +1,6 @@
--- Texts of bytes: zeros, XOR, padding, blocks, numbers in big-endian order.
-use Rattle.std.specs.Prelude.{ℕ, zero, suc, ◌+◌, ◌-◌, ◌*◌, ◌/◌, ◌%◌, List, [], ◌∷◌, ◌++◌, length, take, drop, replicate, bit_xor}
-
-abbrev pub zeros : ℕ → List ℕ
-zeros n = replicate n 0
+-- Texts of bytes: XOR, padding, blocks.
+use Rattle.std.specs.Prelude.{ℕ, ◌-◌, ◌*◌, ◌/◌, List, [], ◌∷◌, ◌++◌, length, take, drop, bit_xor}
+use Rattle.octets.specs.Octets.{zeros}
 
 -- byte by byte, as far as the shorter goes
 unfoldable pub xor : List ℕ → List ℕ → List ℕ
@@ -24,13 +22,3 @@ block_at bytes i = take 32 (drop (32 * i) bytes)
 -- what is left after the full blocks: 0 to 31 bytes
 unfoldable pub tail_of : List ℕ → List ℕ
 tail_of bytes = drop (32 * full_blocks bytes) bytes
-
--- n in so many bytes, the most significant first
-unfoldable pub big_endian : (size n : ℕ) → List ℕ
-big_endian zero n = []
-big_endian (suc k) n = big_endian k (n / 256) ++ (n % 256 ∷ [])
-
--- the number that bytes spell, the most significant first, after what stands before them
-unfoldable pub spelt : List ℕ → (before : ℕ) → ℕ
-spelt [] before = before
-spelt (b ∷ bs) before = spelt bs (before * 256 + b)

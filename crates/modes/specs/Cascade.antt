@@ -6,7 +6,7 @@ use Rattle.faults.specs.declared.ModeCause.TheVariants.{Length, Limit, Parameter
 use Rattle.faults.specs.declared.ModeFault.{ModeFault}
 use Rattle.saturnin.specs.Cube.{at, table}
 use Rattle.saturnin.specs.Meaning.{BlockFunction}
-use Rattle.modes.specs.Bytes.{zeros}
+use Rattle.octets.specs.Octets.{zeros}
 use Rattle.modes.specs.Chains.{link, chain}
 use Rattle.modes.specs.Counters.{counter_block}
 

@@ -4,7 +4,8 @@ use Rattle.faults.specs.Tables.{Table, By}
 use Rattle.faults.specs.declared.ModeCause.{ModeCause}
 use Rattle.faults.specs.declared.ModeCause.TheVariants.{Limit}
 use Rattle.faults.specs.declared.ModeFault.{ModeFault}
-use Rattle.modes.specs.Bytes.{xor, padded, big_endian, spelt}
+use Rattle.octets.specs.Octets.{big_endian, spelt}
+use Rattle.modes.specs.Bytes.{xor, padded}
 
 -- the nonce, padded to 32 bytes, with the counter in its last 95 bits
 unfoldable pub counter_block : (nonce : List ℕ) (counter : ℕ) → List ℕ

@@ -5,7 +5,7 @@ use Rattle.faults.specs.declared.ModeCause.{ModeCause}
 use Rattle.faults.specs.declared.ModeCause.TheVariants.{Length, Limit}
 use Rattle.faults.specs.declared.ModeFault.{ModeFault}
 use Rattle.saturnin.specs.Meaning.{BlockFunction}
-use Rattle.modes.specs.Bytes.{zeros}
+use Rattle.octets.specs.Octets.{zeros}
 use Rattle.modes.specs.Chains.{chain}
 
 -- from 32 zero bytes, by separators 7 and 8, with 16 super-rounds

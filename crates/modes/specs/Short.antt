@@ -6,7 +6,8 @@ use Rattle.faults.specs.declared.ModeCause.TheVariants.{Length, Limit, Slip}
 use Rattle.faults.specs.declared.ModeFault.{ModeFault}
 use Rattle.saturnin.specs.Cube.{at}
 use Rattle.saturnin.specs.Meaning.{BlockFunction}
-use Rattle.modes.specs.Bytes.{zeros, padded}
+use Rattle.octets.specs.Octets.{zeros}
+use Rattle.modes.specs.Bytes.{padded}
 use Rattle.modes.specs.Cascade.{left}
 
 -- a nonce of 16 bytes and the message, padded to 16, in one block by separator 6

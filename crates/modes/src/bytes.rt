@@ -1,5 +1,6 @@
 ghost use Rattle.std.specs.Prelude.{◌≡◌, ◌+◌, ◌*◌, ◌≤◌, true, T, length};
-ghost use Rattle.modes.specs.Bytes.{padded, xor as xored, zeros, block_at, tail_of, big_endian as big_endian_of};
+ghost use Rattle.octets.specs.Octets.{zeros, big_endian as big_endian_of};
+ghost use Rattle.modes.specs.Bytes.{padded, xor as xored, block_at, tail_of};
 
 pub(crate) fn xor(a: &[u8; 32], b: &[u8; 32]) -> [u8; 32]
     ensures { result ≡ xored a.now b.now }

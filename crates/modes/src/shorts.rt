@@ -1,6 +1,7 @@
 ghost use Rattle.std.specs.Prelude.{◌≡◌, ℕ, ◌+◌, ◌-◌, ◌<◌, ◌≤◌, List, ◌++◌, length, take, drop, MatchOption, MatchResult, ◌≢◌};
 ghost use Rattle.faults.specs.Tables.{By};
-ghost use Rattle.modes.specs.Bytes.{padded, zeros};
+ghost use Rattle.octets.specs.Octets.{zeros};
+ghost use Rattle.modes.specs.Bytes.{padded};
 ghost use Rattle.modes.specs.Short.{short_table, ShortSeals, ShortOpens, ShortOpensExactly};
 
 use crate::bytes::{block_of, pad, wipe};

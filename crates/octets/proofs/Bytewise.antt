@@ -2,7 +2,7 @@
 use Rattle.std.proofs.Common.{◌≡◌, ℕ, ◌+◌, ◌*◌, ◌/◌, ◌%◌, List, [], ◌∷◌, map, length, get_or, sym, refl, ap, ◌∙◌, ap₂, arith}
 use Rattle.std.proofs.lemmas.List.FromFn.{fill_by_all}
 use Rattle.std.specs.List.{range_with_len}
-use Rattle.modes.specs.Bytes.{big_endian, spelt}
+use Rattle.octets.specs.Octets.{big_endian, spelt}
 
 -- bytes one by one, where it is known how many they are
 pub one_by_one : (n : ℕ) (bs : List ℕ) → length bs ≡ n → bs ≡ map (λ i. get_or bs i 0) (range_with_len 0 n)

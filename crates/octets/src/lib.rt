@@ -1,26 +1,13 @@
 #![tactic(auto)]
 
 ghost use Rattle.std.specs.Prelude.{◌≡◌, ◌+◌, ◌<◌, ◌≤◌, length, MatchBool, ◌≢◌};
-ghost use Rattle.modes.specs.Bytes.{zeros};
-ghost use Rattle.octets.specs.Octets.{written};
-
-// Makes every byte zero.
-pub fn wipe(s: &mut [u8])
-    ensures { s.new ≡ zeros (length s.old) }
-{
-    s.fill(0);
-}
+ghost use Rattle.octets.specs.Octets.{written, zeros};
 
 // Whether every byte is zero.
 pub fn is_zero(s: &[u8]) -> bool
     ensures { MatchBool result (s.now ≡ zeros (length s.now)) (s.now ≢ zeros (length s.now)) }
 {
-    for b in s {
-        if *b != 0 {
-            return false;
-        }
-    }
-    true
+    s.iter().all(|b| *b == 0)
 }
 
 // Writes `part` from `from` on; what does not fit is not written at all.

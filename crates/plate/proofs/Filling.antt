@@ -1,8 +1,7 @@
 -- A put on a plate as the code does it: first the record is written, and then the mark.
 use Rattle.std.proofs.Common.{◌≡◌, ℕ, ◌+◌, ◌*◌, ◌/◌, ◌%◌, ◌<◌, ◌≤◌, List, [], ◌∷◌, ◌++◌, length, Some, Ok, sym, ap, ◌∙◌, ap₂, arith}
 use Rattle.faults.specs.Tables.{Clear}
-use Rattle.octets.specs.Octets.{written}
-use Rattle.modes.specs.Bytes.{big_endian}
+use Rattle.octets.specs.Octets.{written, big_endian}
 use Rattle.octets.proofs.Writes.{length-written, written-before}
 use Rattle.shelf.specs.Meaning.{Answers, Puts, put_table}
 use Rattle.shelf.specs.Plates.{cells, mark, NoMarkAbove, Fit, used, plate, PlateStores}

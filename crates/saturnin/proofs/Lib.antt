@@ -7,3 +7,4 @@ pub mod Inverse
 pub mod Conversions
 pub mod Laws
 pub mod TwoRounds
+pub mod Made

@@ -1,6 +1,6 @@
 -- Lists made from a function of the index.
-use Rattle.std.proofs.Common.{◌≡◌, ℕ, ◌<◌, List, length, sym, ◌∙◌, arith}
-use Rattle.std.proofs.lemmas.List.{ext_get_or}
+use Rattle.std.proofs.Common.{◌≡◌, ℕ, ◌<◌, List, length, map, get_or, sym, ◌∙◌, arith}
+use Rattle.std.proofs.lemmas.List.{ext_get_or, get_or-map, length-map}
 use Rattle.std.proofs.lemmas.List.FromFn.{length-map-range_with_len, get_or-map-range_with_len}
 use Rattle.saturnin.specs.Cube.{table, at}
 
@@ -21,3 +21,8 @@ same_table n f g e =
 pub is_table : (n : ℕ) (f : ℕ → ℕ) (s : List ℕ) → length s ≡ n → ((i : ℕ) → i < n → at s i ≡ f i) → s ≡ table n f
 is_table n f s l e =
     ext_get_or 0 s (table n f) (l ∙ sym (length-table n f)) (λ i h. let m : i < n = omega (arith, l) in e i m ∙ sym (at_table n f i m))
+
+-- a list of records, one field of which is the table
+pub is_table_of : {A : Type 0} (n : ℕ) (f : ℕ → ℕ) (p : A → ℕ) (s : List A) (d : A) → length s ≡ n → ((i : ℕ) → i < n → p (get_or s i d) ≡ f i) → map p s ≡ table n f
+is_table_of n f p s d l e =
+    is_table n f (map p s) (length-map s p ∙ l) (λ i h. let m : i < length s = omega (arith, l) in get_or-map p s i d 0 m ∙ e i h)

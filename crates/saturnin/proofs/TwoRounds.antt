@@ -5,7 +5,7 @@ use Rattle.saturnin.specs.Cube.{Cube}
 use Rattle.saturnin.specs.Layers.{S, SR_slice, SR_slice⁻¹, SR_sheet, SR_sheet⁻¹, SR, SR⁻¹, MC, add}
 use Rattle.saturnin.specs.Rounds.{RC₀, RC₁, constants, rotated, round_key, add_subkey, round, rounds}
 use Rattle.saturnin.specs.Back.{S⁻¹, MC⁻¹, round⁻¹, rounds⁻¹}
-use Rattle.saturnin.specs.TwoRounds.{slice_round, slice_round⁻¹, sheet_round, sheet_round⁻¹}
+use Rattle.saturnin.specs.TwoRounds.{super_round, super_round⁻¹}
 use Rattle.saturnin.proofs.Inverse.{add-add}
 
 module _ (k : Cube) (D R : ℕ) where
@@ -17,25 +17,6 @@ module _ (k : Cube) (D R : ℕ) where
   even_round⁻¹ : (r : ℕ) → r % 2 ≡ 0 → (s : Cube) → round⁻¹ k D R r s ≡ S⁻¹ (MC⁻¹ s)
   unfolding round⁻¹ SR SR⁻¹ add_subkey
   even_round⁻¹ r e s = rw (ne_eqb (r % 4) 1 (λ q. omega arith), ne_eqb (r % 4) 3 (λ q. omega arith), eq-eqb (r % 2) 0 e)
-
-  -- what the second round of super-round i adds
-  slice_key : (r i : ℕ) → r % 4 ≡ 1 → r / 2 ≡ i → (s : Cube) → add_subkey k D R r s ≡ add (rotated k) (add (constants (RC₀ D R i) (RC₁ D R i)) s)
-  unfolding add_subkey round_key
-  slice_key r i e f s = rw (ne_eqb (r % 2) 0 (λ q. omega arith), ne_eqb (r % 4) 3 (λ q. omega arith), f) (add-add _ _ s)
-
-  sheet-key : (r i : ℕ) → r % 4 ≡ 3 → r / 2 ≡ i → (s : Cube) → add_subkey k D R r s ≡ add k (add (constants (RC₀ D R i) (RC₁ D R i)) s)
-  unfolding add_subkey round_key
-  sheet-key r i e f s = rw (ne_eqb (r % 2) 0 (λ q. omega arith), eq-eqb (r % 4) 3 e, f) (add-add _ _ s)
-
-  slice_second : (r i : ℕ) → r % 4 ≡ 1 → r / 2 ≡ i → (s : Cube)
-      → round k D R r s ≡ add (rotated k) (add (constants (RC₀ D R i) (RC₁ D R i)) (SR_slice⁻¹ (MC (SR_slice (S s)))))
-  unfolding round SR SR⁻¹
-  slice_second r i e f s = rw (eq-eqb (r % 4) 1 e) (slice_key r i e f _)
-
-  sheet_second : (r i : ℕ) → r % 4 ≡ 3 → r / 2 ≡ i → (s : Cube)
-      → round k D R r s ≡ add k (add (constants (RC₀ D R i) (RC₁ D R i)) (SR_sheet⁻¹ (MC (SR_sheet (S s)))))
-  unfolding round SR SR⁻¹
-  sheet_second r i e f s = rw (ne_eqb (r % 4) 1 (λ q. omega arith), eq-eqb (r % 4) 3 e) (sheet-key r i e f _)
 
   two_more : (i : ℕ) (s : Cube) → rounds k D R (2 * (i + 1)) s ≡ round k D R (2 * i + 1) (round k D R (2 * i) (rounds k D R (2 * i) s))
   unfolding rounds
@@ -51,36 +32,51 @@ module _ (k : Cube) (D R : ℕ) where
       let f : suc (2 * i) ≡ 2 * i + 1 = omega arith in
       ap (λ n. rounds⁻¹ k D R n s) e ∙ ap (λ n. rounds⁻¹ k D R (2 * i) (round⁻¹ k D R (2 * i) (round⁻¹ k D R n s))) f
 
-  pub slice_more : (i : ℕ) (s : Cube) → i % 2 ≡ 0
-      → slice_round (rotated k) (RC₀ D R i) (RC₁ D R i) (rounds k D R (2 * i) s) ≡ rounds k D R (2 * (i + 1)) s
-  unfolding slice_round
-  slice_more i s e = sym (two_more i s ∙ slice_second (2 * i + 1) i (omega arith) (omega arith) _
-      ∙ ap (λ x. add (rotated k) (add (constants (RC₀ D R i) (RC₁ D R i)) (SR_slice⁻¹ (MC (SR_slice (S x)))))) (even_round (2 * i) (omega arith) _))
+  -- the second round of super-round i, by its shift and its key
+  pub record Second (i : ℕ) (there back : Cube → Cube) (key : Cube) : Type 0 where
+    there_is : (s : Cube) → SR (2 * i + 1) s ≡ there s
+    back_is : (s : Cube) → SR⁻¹ (2 * i + 1) s ≡ back s
+    key_is : round_key k (2 * i + 1) ≡ key
 
-  pub sheet_more : (i : ℕ) (s : Cube) → i % 2 ≡ 1
-      → sheet_round k (RC₀ D R i) (RC₁ D R i) (rounds k D R (2 * i) s) ≡ rounds k D R (2 * (i + 1)) s
-  unfolding sheet_round
-  sheet_more i s e = sym (two_more i s ∙ sheet_second (2 * i + 1) i (omega arith) (omega arith) _
-      ∙ ap (λ x. add k (add (constants (RC₀ D R i) (RC₁ D R i)) (SR_sheet⁻¹ (MC (SR_sheet (S x)))))) (even_round (2 * i) (omega arith) _))
+  pub slices : (i : ℕ) → i % 2 ≡ 0 → Second i SR_slice SR_slice⁻¹ (rotated k)
+  unfolding SR SR⁻¹ round_key
+  slices i e =
+      let one : (2 * i + 1) % 4 ≡ 1 = omega arith in record {
+        there_is = λ s. rw (eq-eqb ((2 * i + 1) % 4) 1 one);
+        back_is = λ s. rw (eq-eqb ((2 * i + 1) % 4) 1 one);
+        key_is = rw (ne_eqb ((2 * i + 1) % 4) 3 (λ q. omega arith));
+      }
 
-  slice_second⁻¹ : (r i : ℕ) → r % 4 ≡ 1 → r / 2 ≡ i → (s : Cube)
-      → round⁻¹ k D R r s ≡ S⁻¹ (SR_slice⁻¹ (MC⁻¹ (SR_slice (add (rotated k) (add (constants (RC₀ D R i) (RC₁ D R i)) s)))))
-  unfolding round⁻¹ SR SR⁻¹
-  slice_second⁻¹ r i e f s = rw (eq-eqb (r % 4) 1 e) (ap (λ x. S⁻¹ (SR_slice⁻¹ (MC⁻¹ (SR_slice x)))) (slice_key r i e f s))
+  pub sheets : (i : ℕ) → i % 2 ≡ 1 → Second i SR_sheet SR_sheet⁻¹ k
+  unfolding SR SR⁻¹ round_key
+  sheets i e =
+      let three : (2 * i + 1) % 4 ≡ 3 = omega arith in record {
+        there_is = λ s. rw (ne_eqb ((2 * i + 1) % 4) 1 (λ q. omega arith), eq-eqb ((2 * i + 1) % 4) 3 three);
+        back_is = λ s. rw (ne_eqb ((2 * i + 1) % 4) 1 (λ q. omega arith), eq-eqb ((2 * i + 1) % 4) 3 three);
+        key_is = rw (eq-eqb ((2 * i + 1) % 4) 3 three);
+      }
 
-  sheet_second⁻¹ : (r i : ℕ) → r % 4 ≡ 3 → r / 2 ≡ i → (s : Cube)
-      → round⁻¹ k D R r s ≡ S⁻¹ (SR_sheet⁻¹ (MC⁻¹ (SR_sheet (add k (add (constants (RC₀ D R i) (RC₁ D R i)) s)))))
-  unfolding round⁻¹ SR SR⁻¹
-  sheet_second⁻¹ r i e f s = rw (ne_eqb (r % 4) 1 (λ q. omega arith), eq-eqb (r % 4) 3 e) (ap (λ x. S⁻¹ (SR_sheet⁻¹ (MC⁻¹ (SR_sheet x)))) (sheet-key r i e f s))
+  module _ (i : ℕ) {there back : Cube → Cube} {key : Cube} (second : Second i there back key) where
+    -- what it adds
+    subkey : (s : Cube) → add_subkey k D R (2 * i + 1) s ≡ add key (add (constants (RC₀ D R i) (RC₁ D R i)) s)
+    unfolding add_subkey
+    subkey s =
+        let half : (2 * i + 1) / 2 ≡ i = omega arith in
+        rw (ne_eqb ((2 * i + 1) % 2) 0 (λ q. omega arith), second.key_is, half) (add-add _ _ s)
 
-  pub slice_less : (i : ℕ) (s : Cube) → i % 2 ≡ 0
-      → rounds⁻¹ k D R (2 * i) (slice_round⁻¹ (rotated k) (RC₀ D R i) (RC₁ D R i) s) ≡ rounds⁻¹ k D R (2 * (i + 1)) s
-  unfolding slice_round⁻¹
-  slice_less i s e = sym (two_less i s ∙ ap (rounds⁻¹ k D R (2 * i)) (even_round⁻¹ (2 * i) (omega arith) _
-      ∙ ap (λ x. S⁻¹ (MC⁻¹ x)) (slice_second⁻¹ (2 * i + 1) i (omega arith) (omega arith) s)))
+    forth : (s : Cube) → round k D R (2 * i + 1) s ≡ add key (add (constants (RC₀ D R i) (RC₁ D R i)) (back (MC (there (S s)))))
+    unfolding round
+    forth s = subkey _ ∙ ap (λ x. add key (add (constants (RC₀ D R i) (RC₁ D R i)) x)) (second.back_is _ ∙ ap (λ x. back (MC x)) (second.there_is (S s)))
 
-  pub sheet_less : (i : ℕ) (s : Cube) → i % 2 ≡ 1
-      → rounds⁻¹ k D R (2 * i) (sheet_round⁻¹ k (RC₀ D R i) (RC₁ D R i) s) ≡ rounds⁻¹ k D R (2 * (i + 1)) s
-  unfolding sheet_round⁻¹
-  sheet_less i s e = sym (two_less i s ∙ ap (rounds⁻¹ k D R (2 * i)) (even_round⁻¹ (2 * i) (omega arith) _
-      ∙ ap (λ x. S⁻¹ (MC⁻¹ x)) (sheet_second⁻¹ (2 * i + 1) i (omega arith) (omega arith) s)))
+    undone : (s : Cube) → round⁻¹ k D R (2 * i + 1) s ≡ S⁻¹ (back (MC⁻¹ (there (add key (add (constants (RC₀ D R i) (RC₁ D R i)) s)))))
+    unfolding round⁻¹
+    undone s = ap S⁻¹ (second.back_is _ ∙ ap (λ x. back (MC⁻¹ x)) (second.there_is _ ∙ ap there (subkey s)))
+
+    pub more : (s : Cube) → super_round there back key (RC₀ D R i) (RC₁ D R i) (rounds k D R (2 * i) s) ≡ rounds k D R (2 * (i + 1)) s
+    unfolding super_round
+    more s = sym (two_more i s ∙ forth _
+        ∙ ap (λ x. add key (add (constants (RC₀ D R i) (RC₁ D R i)) (back (MC (there (S x)))))) (even_round (2 * i) (omega arith) _))
+
+    pub less : (s : Cube) → rounds⁻¹ k D R (2 * i) (super_round⁻¹ there back key (RC₀ D R i) (RC₁ D R i) s) ≡ rounds⁻¹ k D R (2 * (i + 1)) s
+    unfolding super_round⁻¹
+    less s = sym (two_less i s ∙ ap (rounds⁻¹ k D R (2 * i)) (even_round⁻¹ (2 * i) (omega arith) _ ∙ ap (λ x. S⁻¹ (MC⁻¹ x)) (undone s)))

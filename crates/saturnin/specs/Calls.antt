@@ -6,12 +6,14 @@ use Rattle.faults.specs.declared.ModeCause.TheVariants.{Length, Parameter}
 use Rattle.faults.specs.declared.ModeFault.{ModeFault}
 use Rattle.saturnin.specs.Meaning.{BlockFunction}
 
+-- a separator is 0 to 15, and a cipher has 10 to 31 super-rounds
+abbrev pub parameter_table : (D R : ℕ) → Table ModeCause
+parameter_table D R = (Not ((D ≤ 15) × (10 ≤ R) × (R ≤ 31)), Parameter) ∷ []
+
 -- key and block by their lengths
 abbrev pub call_table : (key D R block : ℕ) → Table ModeCause
 call_table key D R block =
-    (Not ((key ≡ 32) × (block ≡ 32)), Length)
-    ∷ (Not ((D ≤ 15) × (10 ≤ R) × (R ≤ 31)), Parameter)
-    ∷ []
+    (Not ((key ≡ 32) × (block ≡ 32)), Length) ∷ parameter_table D R
 
 -- a call of the block function f, by its answer and by what the block's buffer holds after it
 abbrev pub Calls : BlockFunction → (key : List ℕ) (D R : ℕ) (block : List ℕ) → Result (Unit {0}) ModeFault → List ℕ → Type 0

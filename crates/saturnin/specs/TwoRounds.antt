@@ -2,20 +2,14 @@
 -- the rounds of the cipher is proved, and nothing else rests on them.
 use Rattle.std.specs.Prelude.{ℕ}
 use Rattle.saturnin.specs.Cube.{Cube}
-use Rattle.saturnin.specs.Layers.{S, SR_slice, SR_slice⁻¹, SR_sheet, SR_sheet⁻¹, MC, add}
+use Rattle.saturnin.specs.Layers.{S, MC, add}
 use Rattle.saturnin.specs.Back.{S⁻¹, MC⁻¹}
 use Rattle.saturnin.specs.Rounds.{constants}
 
--- a super-round with the shift in slices, by its round key and its constants, and undone
-unfoldable pub slice_round : (key : Cube) (c₀ c₁ : ℕ) → Cube → Cube
-slice_round key c₀ c₁ s = add key (add (constants c₀ c₁) (SR_slice⁻¹ (MC (SR_slice (S (MC (S s)))))))
+-- a super-round by its shift and the way back from there, its round key and its constants
+unfoldable pub super_round : (there back : Cube → Cube) (key : Cube) (c₀ c₁ : ℕ) → Cube → Cube
+super_round there back key c₀ c₁ s = add key (add (constants c₀ c₁) (back (MC (there (S (MC (S s)))))))
 
-unfoldable pub slice_round⁻¹ : (key : Cube) (c₀ c₁ : ℕ) → Cube → Cube
-slice_round⁻¹ key c₀ c₁ s = S⁻¹ (MC⁻¹ (S⁻¹ (SR_slice⁻¹ (MC⁻¹ (SR_slice (add key (add (constants c₀ c₁) s)))))))
-
--- the same with the shift in sheets
-unfoldable pub sheet_round : (key : Cube) (c₀ c₁ : ℕ) → Cube → Cube
-sheet_round key c₀ c₁ s = add key (add (constants c₀ c₁) (SR_sheet⁻¹ (MC (SR_sheet (S (MC (S s)))))))
-
-unfoldable pub sheet_round⁻¹ : (key : Cube) (c₀ c₁ : ℕ) → Cube → Cube
-sheet_round⁻¹ key c₀ c₁ s = S⁻¹ (MC⁻¹ (S⁻¹ (SR_sheet⁻¹ (MC⁻¹ (SR_sheet (add key (add (constants c₀ c₁) s)))))))
+-- the same undone
+unfoldable pub super_round⁻¹ : (there back : Cube → Cube) (key : Cube) (c₀ c₁ : ℕ) → Cube → Cube
+super_round⁻¹ there back key c₀ c₁ s = S⁻¹ (MC⁻¹ (S⁻¹ (back (MC⁻¹ (there (add key (add (constants c₀ c₁) s)))))))

@@ -1,31 +1,24 @@
-ghost use Rattle.std.specs.Prelude.{◌≡◌, ℕ, ◌≤◌, length, MatchResult};
-ghost use Rattle.faults.specs.Tables.{By};
+ghost use Rattle.std.specs.Prelude.{◌≡◌, ℕ, length};
+ghost use Rattle.faults.specs.Tables.{Checks};
 ghost use Rattle.saturnin.specs.Meaning.{BlockFunction, GivesBlocks, TwoWay};
 ghost use Rattle.saturnin.specs.Calls.{Calls, call_table};
 
-use crate::parameters::{Separator, SuperRounds};
+use crate::parameters::Parameters;
 use faults::{ModeCause, ModeFault};
 
-// A cipher is a function from key, separator, count of super-rounds and block to block. No call changes it.
+// A cipher is a function from key, parameters and block to block. No call changes it.
 pub trait Cipher {
     ghost forward: { Self → BlockFunction };
 
-    fn encrypt_block(
-        &self,
-        key: &[u8; 32],
-        d: Separator,
-        r: SuperRounds,
-        block: &[u8; 32],
-    ) -> [u8; 32]
-        ensures { result ≡ forward self.now key.now d.value r.value block.now };
+    fn encrypt_block(&self, key: &[u8; 32], by: Parameters, block: &[u8; 32]) -> [u8; 32]
+        ensures { result ≡ forward self.now key.now by.d by.r block.now };
 
     // The block in its own buffer, or a refusal that leaves it as it was.
     fn encrypt(&self, key: &[u8], d: u8, r: u8, block: &mut [u8]) -> Result<(), ModeFault>
         ensures { Calls (forward self.now) key.now d r block.old result block.new }
     {
-        let (d, r) = admitted(key.len(), d, r, block.len())?;
-        let out = self.encrypt_block(&whole(key), d, r, &whole(block));
-        block.copy_from_slice(&out);
+        let (key, by, plain) = admitted(key, d, r, block)?;
+        block.copy_from_slice(&self.encrypt_block(&key, by, &plain));
         Ok(())
     }
 
@@ -36,52 +29,32 @@ pub trait Cipher {
 pub trait TwoWayCipher: Cipher {
     ghost back: { Self → BlockFunction };
 
-    fn decrypt_block(
-        &self,
-        key: &[u8; 32],
-        d: Separator,
-        r: SuperRounds,
-        block: &[u8; 32],
-    ) -> [u8; 32]
-        ensures { result ≡ back self.now key.now d.value r.value block.now };
+    fn decrypt_block(&self, key: &[u8; 32], by: Parameters, block: &[u8; 32]) -> [u8; 32]
+        ensures { result ≡ back self.now key.now by.d by.r block.now };
 
     fn decrypt(&self, key: &[u8], d: u8, r: u8, block: &mut [u8]) -> Result<(), ModeFault>
         ensures { Calls (back self.now) key.now d r block.old result block.new }
     {
-        let (d, r) = admitted(key.len(), d, r, block.len())?;
-        let out = self.decrypt_block(&whole(key), d, r, &whole(block));
-        block.copy_from_slice(&out);
+        let (key, by, text) = admitted(key, d, r, block)?;
+        block.copy_from_slice(&self.decrypt_block(&key, by, &text));
         Ok(())
     }
 
     ghost two_way: { (c : Self) → TwoWay (Self.Cipher.forward c) (back c) };
 }
 
-// The parameters of a call with a key and a block of these lengths, unless it is refused.
-fn admitted(key: usize, d: u8, r: u8, block: usize) -> Result<(Separator, SuperRounds), ModeFault>
-    ensures { MatchResult result
-        (λ p. (key ≡ 32) × (block ≡ 32) × (p.0.value ≡ d) × (p.1.value ≡ r))
-        (λ fault. By (call_table key d r block) (λ cause. fault ≡ record { cause = cause }) ⊥) }
+// What a call was handed, in the types of the block functions, unless it is refused.
+fn admitted(
+    key: &[u8],
+    d: u8,
+    r: u8,
+    block: &[u8],
+) -> Result<([u8; 32], Parameters, [u8; 32]), ModeFault>
+    ensures { Checks (call_table (length key.now) d r (length block.now))
+        (λ call. (call.0 ≡ key.now) × (call.1.d ≡ d) × (call.1.r ≡ r) × (call.2 ≡ block.now)) result }
 {
-    if key != 32 || block != 32 {
-        return Err(ModeFault {
-            cause: ModeCause::Length,
-        });
-    }
-    if d > 15 || r < 10 || r > 31 {
-        return Err(ModeFault {
-            cause: ModeCause::Parameter,
-        });
-    }
-    Ok((Separator { value: d }, SuperRounds { value: r }))
-}
-
-// Thirty-two bytes by value.
-fn whole(bytes: &[u8]) -> [u8; 32]
-    requires { length bytes.now ≡ 32 }
-    ensures { result ≡ bytes.now }
-{
-    let mut out = [0; 32];
-    out.copy_from_slice(bytes);
-    out
+    let (Ok(key), Ok(block)) = (key.try_into(), block.try_into()) else {
+        return Err(ModeCause::Length.into());
+    };
+    Ok((key, Parameters::new(d, r)?, block))
 }

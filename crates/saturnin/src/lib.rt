@@ -5,5 +5,5 @@ mod parameters;
 mod schedule;
 
 pub use cipher::{Cipher, TwoWayCipher};
-pub use parameters::{Separator, SuperRounds};
-pub use schedule::Schedule;
+pub use parameters::Parameters;
+pub use schedule::{RoundConstants, Schedule};

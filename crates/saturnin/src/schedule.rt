@@ -1,26 +1,36 @@
-ghost use Rattle.std.specs.Prelude.{◌≡◌, ◌+◌, ◌*◌, ◌<◌};
+ghost use Rattle.std.specs.Prelude.{◌≡◌, ◌+◌, ◌*◌, ◌<◌, map};
 ghost use Rattle.saturnin.specs.Cube.{table};
 ghost use Rattle.saturnin.specs.Rounds.{clock, clocked, RC₀, RC₁};
 
-use crate::parameters::{Separator, SuperRounds};
+use crate::parameters::Parameters;
+use std::array;
+
+// The two constants of a super-round.
+#[derive(Clone, Copy)]
+pub struct RoundConstants {
+    pub rc0: u16,
+    pub rc1: u16,
+}
 
 // The constants of super-rounds 0 to 30; a cipher of R super-rounds uses the first R.
 #[derive(Clone, Copy)]
 pub struct Schedule {
-    pub rc0: [u16; 31],
-    pub rc1: [u16; 31],
+    pub rounds: [RoundConstants; 31],
 }
 
 impl Schedule {
-    pub fn new(d: Separator, r: SuperRounds) -> Schedule
-        ensures rc0 { result.rc0 ≡ table 31 (RC₀ d.value r.value) }
-        ensures rc1 { result.rc1 ≡ table 31 (RC₁ d.value r.value) }
+    pub fn new(by: Parameters) -> Schedule
+        ensures rc0 { map (λ (c : RoundConstants). c.rc0) result.rounds ≡ table 31 (RC₀ by.d by.r) }
+        ensures rc1 { map (λ (c : RoundConstants). c.rc1) result.rounds ≡ table 31 (RC₁ by.d by.r) }
     {
-        let start = 0xfe00 + 16 * r.value as u16 + d.value as u16;
-        Schedule {
-            rc0: clockings(0x002d, start),
-            rc1: clockings(0x0053, start),
-        }
+        let start = 0xfe00 + 16 * by.r as u16 + by.d as u16;
+        let rc0 = clockings(0x002d, start);
+        let rc1 = clockings(0x0053, start);
+        let rounds = array::from_fn(|i| RoundConstants {
+            rc0: rc0[i],
+            rc1: rc1[i],
+        });
+        Schedule { rounds }
     }
 }
 
@@ -30,9 +40,9 @@ fn clockings(taps: u16, start: u16) -> [u16; 31]
 {
     let mut out = [0; 31];
     let mut c = start;
-    for i in 0..31 {
+    for constant in &mut out {
         c = clock_sixteen(taps, c);
-        out[i] = c;
+        *constant = c;
     }
     out
 }

@@ -2,8 +2,7 @@
 use Rattle.std.proofs.Common.{◌≡◌, ℕ, ◌+◌, ◌-◌, ◌*◌, ◌≤◌, List, length, get_or, take, drop, sym, ap, ◌∙◌, ap₂, arith}
 use Rattle.std.proofs.lemmas.List.{length-take, length-drop, get_or-take, get_or-drop}
 use Rattle.faults.specs.Tables.{Not}
-use Rattle.modes.specs.Bytes.{zeros, spelt}
-use Rattle.octets.specs.Octets.{part}
+use Rattle.octets.specs.Octets.{zeros, spelt, part}
 use Rattle.octets.proofs.Bytewise.{one_by_one}
 use Rattle.sheets.specs.Sheets.{length_in, WellFormed}
 

@@ -1,8 +1,7 @@
 -- A record by the writes that lay it out.
 use Rattle.std.proofs.Common.{◌≡◌, ℕ, ◌+◌, ◌-◌, ◌≤◌, List, ◌++◌, length, take, drop, sym, ap, ◌∙◌, ap₂, arith}
 use Rattle.std.proofs.lemmas.List.{length-replicate, take-append-drop, drop-drop, take_all, take-replicate, drop-replicate, length-take, length-drop}
-use Rattle.modes.specs.Bytes.{zeros}
-use Rattle.octets.specs.Octets.{part, written}
+use Rattle.octets.specs.Octets.{zeros, part, written}
 use Rattle.saturnin.specs.Meaning.{BlockFunction}
 use Rattle.modes.specs.Cascade.{ctr, tag}
 use Rattle.sheets.specs.Sheets.{head_of, associated, sealed}

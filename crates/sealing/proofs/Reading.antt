@@ -11,8 +11,7 @@ use Rattle.faults.specs.declared.BoxCause.TheVariants.{Mode}
 use Rattle.faults.specs.declared.BoxFault.{BoxFault}
 use Rattle.faults.proofs.Tables.{by_follows}
 use Rattle.sealing.specs.declared.found.Found.{Found}
-use Rattle.octets.specs.Octets.{part, written}
-use Rattle.modes.specs.Bytes.{big_endian}
+use Rattle.octets.specs.Octets.{part, written, big_endian}
 use Rattle.modes.proofs.Counting.{length-big_endian}
 use Rattle.saturnin.specs.Meaning.{BlockFunction}
 use Rattle.modes.specs.Cascade.{ctr, left, Opens}

@@ -1,5 +1,5 @@
 ghost use Rattle.std.specs.Prelude.{◌≡◌, ◌++◌, length};
-ghost use Rattle.modes.specs.Bytes.{big_endian};
+ghost use Rattle.octets.specs.Octets.{big_endian};
 ghost use Rattle.sheets.specs.Sheets.{associated as associated_of};
 ghost use Rattle.sealing.specs.Sealing.{SealsSheet};
 

@@ -5,7 +5,8 @@ use Prim.Native.Nat.{ℕ, zero, suc, ◌-◌}
 use native.Mathlib.Omega.{arith}
 use lib.Bits.{bit_xor, xor_zero_r}
 use lib.ListN.{length}
-use Rattle.modes.specs.Bytes.{zeros, xor, padded, big_endian}
+use Rattle.octets.specs.Octets.{zeros, big_endian}
+use Rattle.modes.specs.Bytes.{xor, padded}
 use Rattle.modes.specs.Counters.{counter_block}
 
 xor-append : (a b c d : List ℕ) → length a ≡ length c → xor (a ++ b) (c ++ d) ≡ xor a c ++ xor b d

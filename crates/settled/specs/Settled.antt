@@ -3,7 +3,7 @@ use Rattle.std.specs.Prelude.{◌≡◌, List, [], ◌∷◌, ◌++◌, map, con
 use Rattle.saturnin.specs.Cube.{Cube, at, table, cube, word}
 use Rattle.saturnin.specs.Layers.{σ₀, σ₁, SR, α, M_row}
 use Rattle.saturnin.specs.Rounds.{start, clock, rotated}
-use Rattle.modes.specs.Bytes.{zeros}
+use Rattle.octets.specs.Octets.{zeros}
 use Rattle.modes.specs.Counters.{counter_block}
 
 -- the cube whose nibbles are numbered: what stands at i is where nibble i came from

@@ -2,7 +2,7 @@
 use Rattle.std.proofs.Common.{◌≡◌, ℕ, zero, suc, ◌+◌, ◌<◌, ◌≤◌, true, false, cond, List, [], ◌∷◌, ◌++◌, length, sym, ap, ◌∙◌, subst, inl, inr, add-one, arith}
 use Rattle.std.proofs.lemmas.Bool.{cases_Bool}
 use Rattle.faults.specs.Tables.{Not}
-use Rattle.modes.specs.Bytes.{zeros}
+use Rattle.octets.specs.Octets.{zeros}
 use Rattle.shelf.specs.Meaning.{Meaning, Lawful}
 use Rattle.sheets.specs.declared.entries.Entry.{Entry}
 use Rattle.sheets.specs.Records.{empty, number_in}

@@ -1,7 +1,6 @@
 -- The record of a sheet.
 use Rattle.std.specs.Prelude.{ℕ, List}
-use Rattle.modes.specs.Bytes.{zeros, spelt}
-use Rattle.octets.specs.Octets.{part}
+use Rattle.octets.specs.Octets.{zeros, spelt, part}
 
 -- what an empty place holds
 abbrev pub empty : List ℕ

@@ -1,7 +1,6 @@
 -- Sheets and slips as bytes, over any block function f.
 use Rattle.std.specs.Prelude.{◌≡◌, ℕ, ◌+◌, ◌-◌, ◌≤◌, List, ◌++◌, length, take, drop}
-use Rattle.modes.specs.Bytes.{zeros, big_endian, spelt}
-use Rattle.octets.specs.Octets.{part}
+use Rattle.octets.specs.Octets.{zeros, big_endian, spelt, part}
 use Rattle.saturnin.specs.Meaning.{BlockFunction}
 use Rattle.modes.specs.Cascade.{ctr, tag}
 use Rattle.modes.specs.Short.{short}

@@ -3,8 +3,7 @@ use Rattle.std.proofs.Common.{◌≡◌, ℕ, ◌+◌, ◌*◌, ◌/◌, ◌%◌
 use Rattle.std.proofs.lemmas.List.{length-take, length-drop, length-replicate}
 use Rattle.std.proofs.lemmas.Bool.{ltb-true, lt-ltb, ne_eqb, cases_lt, cases_eq, and_parts, and_from}
 use Rattle.faults.specs.Tables.{Not, Clear}
-use Rattle.octets.specs.Octets.{part, written}
-use Rattle.modes.specs.Bytes.{big_endian}
+use Rattle.octets.specs.Octets.{part, written, big_endian}
 use Rattle.modes.proofs.Counting.{length-big_endian}
 use Rattle.octets.proofs.Writes.{length-written, drop-written, part-written, part_below, part_above, get_or-written, get_or-apart, written-before}
 use Rattle.shelf.specs.Meaning.{Lawful, Puts, put_table}

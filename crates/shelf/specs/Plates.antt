@@ -3,8 +3,7 @@ use Rattle.std.specs.Prelude.{◌≡◌, ℕ, zero, suc, ◌+◌, ◌*◌, ◌/�
 use Rattle.faults.specs.Tables.{Table, Not}
 use Rattle.faults.specs.declared.ShelfCause.{ShelfCause}
 use Rattle.faults.specs.declared.ShelfCause.TheVariants.{Unfit}
-use Rattle.modes.specs.Bytes.{zeros, big_endian}
-use Rattle.octets.specs.Octets.{part, written}
+use Rattle.octets.specs.Octets.{zeros, big_endian, part, written}
 use Rattle.shelf.specs.Meaning.{Meaning}
 
 -- how many cells a memory of so many bytes has

@@ -1,5 +1,5 @@
 use Rattle.std.proofs.Common.{ap, ◌∙◌}
-use Rattle.modes.specs.Bytes.{zeros}
+use Rattle.octets.specs.Octets.{zeros}
 use Rattle.modes.proofs.Paddings.{message_put}
 use Rattle.modes.proofs.shorts.put_message.Goals as goal
 

@@ -4,23 +4,23 @@ use Rattle.saturnin.proofs.Clocks.{clocked-add}
 use Rattle.saturnin.proofs.Tables.{is_table}
 use Rattle.saturnin.proofs.schedule.clockings.Goals as goal
 
-pub loop-i-init : goal.loop-i-init
+pub loop-constant-init : goal.loop-constant-init
 unfolding clocked
-loop-i-init c = (refl, refl, λ k h. absurd (omega arith))
+loop-constant-init c = (refl, refl, λ k h. absurd (omega arith))
 
-pub loop-i-preserved : goal.loop-i-preserved
-loop-i-preserved c =
+pub loop-constant-preserved : goal.loop-constant-preserved
+loop-constant-preserved c =
     let P = 65536 + c.args.taps in
-    let i = c.loop-i.i in
-    let out = c.loop-i.out in
+    let i = c.loop-constant.constant-index in
+    let out = c.loop-constant.constant-items in
     let e : c.clock_sixteen-c.result ≡ clocked P c.args.start (16 * (i + 1)) =
-    c.clock_sixteen-c.ensures ∙ ap (λ v. clocked P v 16) c.loop-i.invariant.0 ∙ clocked-add P c.args.start (16 * i) 16 ∙ ap (clocked P c.args.start) (omega arith) in (
+    c.clock_sixteen-c.ensures ∙ ap (λ v. clocked P v 16) c.loop-constant.invariant.0 ∙ clocked-add P c.args.start (16 * i) 16 ∙ ap (clocked P c.args.start) (omega arith) in (
       e,
-      length-set out i _ ∙ c.loop-i.invariant.1,
+      length-set out i _ ∙ c.loop-constant.invariant.1,
       below_more _ _
-          (λ k h. let ne : k ≢ i = omega arith in rw get_or-set_other (c.loop-i.invariant.2 k h))
-          (let lt : i < length out = omega (arith, c.loop-i.invariant.1) in rw get_or-set_same e),
+          (λ k h. let ne : k ≢ i = omega arith in rw get_or-set_other (c.loop-constant.invariant.2 k h))
+          (let lt : i < length out = omega (arith, c.loop-constant.invariant.1) in rw get_or-set_same e),
     )
 
 pub returns : goal.returns
-returns c = is_table 31 _ c.loop-i.out c.loop-i.invariant.1 (λ k h. c.loop-i.invariant.2 k (omega arith))
+returns c = is_table 31 _ c.loop-constant.constant-items c.loop-constant.invariant.1 (λ k h. c.loop-constant.invariant.2 k (omega arith))

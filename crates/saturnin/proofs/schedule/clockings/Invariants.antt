@@ -2,7 +2,7 @@ use Rattle.std.proofs.Common.{◌≡◌, ℕ, ◌+◌, ◌*◌, ◌<◌, length,
 use Rattle.saturnin.specs.Rounds.{clocked}
 use Rattle.saturnin.proofs.schedule.clockings.Given as goal
 
-abbrev pub invariant-loop-i : goal.invariant-loop-i
-invariant-loop-i l =
-    (l.c ≡ clocked (65536 + l.taps) l.start (16 * l.i)) × (length l.out ≡ 31)
-    × ((k : ℕ) → k < l.i → get_or l.out k 0 ≡ clocked (65536 + l.taps) l.start (16 * (k + 1)))
+abbrev pub invariant-loop-constant : goal.invariant-loop-constant
+invariant-loop-constant l =
+    (l.c ≡ clocked (65536 + l.taps) l.start (16 * l.constant-index)) × (length l.constant-items ≡ 31)
+    × ((k : ℕ) → k < l.constant-index → get_or l.constant-items k 0 ≡ clocked (65536 + l.taps) l.start (16 * (k + 1)))

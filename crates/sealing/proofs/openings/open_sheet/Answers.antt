@@ -1,5 +1,5 @@
 use Rattle.std.proofs.Common.{◌≡◌, length, ap, ◌∙◌, rules}
-use Rattle.modes.specs.Bytes.{zeros}
+use Rattle.octets.specs.Octets.{zeros}
 use Rattle.sealing.specs.Sealing.{open_sheet_table}
 use Rattle.sealing.proofs.Reading.{wiped, found}
 use Rattle.sealing.proofs.openings.open_sheet.Goals as goal

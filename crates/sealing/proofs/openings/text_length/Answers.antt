@@ -1,6 +1,6 @@
 use Rattle.std.proofs.Common.{sym, refl, ap, ◌∙◌, arith}
 use Rattle.faults.specs.Tables.{Not}
-use Rattle.modes.specs.Bytes.{zeros}
+use Rattle.octets.specs.Octets.{zeros}
 use Rattle.sheets.specs.Sheets.{WellFormed}
 use Rattle.sealing.proofs.Forms.{well_formed, not_formed}
 use Rattle.sealing.proofs.openings.text_length.Goals as goal

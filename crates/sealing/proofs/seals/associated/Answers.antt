@@ -1,7 +1,6 @@
 use Rattle.std.proofs.Common.{◌≡◌, ℕ, ◌++◌, length, sym, ap, ◌∙◌, ap₂, arith, rules}
 use Rattle.std.proofs.lemmas.List.{length-replicate}
-use Rattle.modes.specs.Bytes.{zeros}
-use Rattle.octets.specs.Octets.{written}
+use Rattle.octets.specs.Octets.{zeros, written}
 use Rattle.octets.proofs.Bytewise.{four_bytes}
 use Rattle.octets.proofs.Writes.{two_parts}
 use Rattle.sealing.proofs.seals.associated.Goals as goal

@@ -1,7 +1,6 @@
 use Rattle.std.proofs.Common.{◌≡◌, ℕ, ◌++◌, length, sym, ap, ◌∙◌, ap₂, arith, rules}
 use Rattle.std.proofs.lemmas.List.{length-replicate}
-use Rattle.modes.specs.Bytes.{zeros, big_endian}
-use Rattle.octets.specs.Octets.{written}
+use Rattle.octets.specs.Octets.{zeros, big_endian, written}
 use Rattle.octets.proofs.Writes.{two_parts}
 use Rattle.sealing.proofs.seals.head_of.Goals as goal
 

@@ -1,5 +1,5 @@
 use Rattle.std.proofs.Common.{◌≡◌, ◌≤◌, length, refl, ap, ◌∙◌, arith, rules}
-use Rattle.modes.specs.Bytes.{zeros}
+use Rattle.octets.specs.Octets.{zeros}
 use Rattle.octets.proofs.Writes.{put_is, length-written}
 use Rattle.modes.proofs.Streams.{length-ctr}
 use Rattle.sealing.proofs.Laying.{middle_long, laid, as_sealed}

@@ -1,6 +1,6 @@
 use Rattle.std.proofs.Common.{◌≡◌, ℕ, ◌<◌, vec_items, sym, ap, ◌∙◌, subst, arith}
 use Rattle.std.proofs.lemmas.List.{length-replicate}
-use Rattle.modes.specs.Bytes.{zeros}
+use Rattle.octets.specs.Octets.{zeros}
 use Rattle.shelf.proofs.Tables.{got}
 use Rattle.sheets.proofs.Counting.{entered, skipped}
 use Rattle.sheets.specs.Inventory.{Inventory, nothing}

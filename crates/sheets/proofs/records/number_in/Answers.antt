@@ -1,5 +1,5 @@
 use Rattle.std.proofs.Common.{ap, ◌∙◌}
-use Rattle.modes.specs.Bytes.{spelt}
+use Rattle.octets.specs.Octets.{spelt}
 use Rattle.octets.proofs.Bytewise.{spelt_eight}
 use Rattle.sheets.proofs.records.number_in.Goals as goal
 

@@ -1,5 +1,5 @@
 use Rattle.std.proofs.Common.{◌+◌, ◌*◌, length, Some, None, sym, ap, ◌∙◌, arith}
-use Rattle.modes.specs.Bytes.{zeros}
+use Rattle.octets.specs.Octets.{zeros}
 use Rattle.octets.proofs.Writes.{part_is}
 use Rattle.shelf.specs.Meaning.{get_table}
 use Rattle.shelf.specs.Plates.{cells, held, plate}
