@@ -1,30 +1,18 @@
 -- The block of Short by its parts, and its padding found again.
-use Rattle.std.proofs.Common.{◌≡◌, ℕ, ◌+◌, ◌-◌, ◌<◌, ◌≤◌, List, ◌∷◌, ◌++◌, length, get_or, take, drop, Some, None, Option, sym, ap, ◌∙◌, inl, inr, append_assoc, arith, MatchOption}
-use borrow.Rule.Slice.PartMut.{put_mid, post_of}
-use Rattle.std.proofs.lemmas.List.{length-append, length-drop, length-take, drop-replicate, take_all, take-append-drop, take_at, drop_at}
-use Rattle.std.proofs.lemmas.Slice.{take-put_mid}
-use Rattle.std.proofs.lemmas.Bool.{cases_lt}
+use Rattle.std.proofs.Common.{◌≡◌, ℕ, ◌+◌, ◌-◌, ◌<◌, ◌≤◌, List, ◌++◌, length, get_or, take, drop, Some, None, Option, sym, ap, ◌∙◌, inl, inr, arith, MatchOption, nat_eq}
+use Rattle.std.proofs.lemmas.List.{length-drop, length-take, drop-replicate, take_all, take-append-drop, take_at, drop_at}
+use Rattle.std.specs.Bool.{then_some}
+use Rattle.std.proofs.lemmas.Bool.{cases_lt, cases_eq, eq-eqb, ne_eqb}
 use Rattle.octets.specs.Octets.{zeros}
 use Rattle.modes.specs.Bytes.{padded}
-use Rattle.modes.proofs.Texts.{padded-here, padded_after}
+use Rattle.modes.proofs.Texts.{padded-here, padded_after, is_padded}
 
-pub front_put : (a n : ℕ) (xs ys zs : List ℕ) → ys ≡ zs → length zs ≡ n → a + n ≤ length xs → take (a + n) (put_mid a (a + n - a) xs ys) ≡ take a xs ++ zs
-front_put a n xs ys zs e l fits =
-    take-put_mid a (a + n - a) xs ys (a + n) (omega (arith, ap length e)) (omega arith) ∙ ap (λ t. take a xs ++ t) e
-
-pub padded_join : (nonce m : List ℕ) → length nonce ≡ 16 → padded 32 (nonce ++ m) ≡ nonce ++ padded 16 m
-unfolding padded
-padded_join nonce m h =
-    let k : 31 - length (nonce ++ m) ≡ 15 - length m = simp length-append (omega arith) in
-    append_assoc nonce m (128 ∷ zeros (31 - length (nonce ++ m))) ∙ ap (λ q. nonce ++ (m ++ (128 ∷ zeros q))) k
-
-pub message_put : (plain ys zs : List ℕ) (n : ℕ) → n ≤ 15 → ys ≡ take (16 + n - 16) (drop 16 plain) → zs ≡ zeros 15 → ys ++ post_of 0 (n - 0) zs ≡ take n (drop 16 plain) ++ zeros (15 - n)
+pub message_put : (plain ys zs : List ℕ) (n : ℕ) → n ≤ 15 → ys ≡ take (16 + n - 16) (drop 16 plain) → zs ≡ zeros 15 → ys ++ drop n zs ≡ take n (drop 16 plain) ++ zeros (15 - n)
 message_put plain ys zs n l e f =
-    let z : n - 0 ≡ n = omega arith in
     let s : 16 + n - 16 ≡ n = omega arith in
-    ap (λ t. t ++ drop (n - 0) zs) e
-    ∙ ap (λ t. take t (drop 16 plain) ++ drop (n - 0) zs) s
-    ∙ ap (λ t. take n (drop 16 plain) ++ t) (ap (drop (n - 0)) f ∙ ap (λ t. drop t (zeros 15)) z ∙ drop-replicate n 15 0)
+    ap (λ t. t ++ drop n zs) e
+    ∙ ap (λ t. take t (drop 16 plain) ++ drop n zs) s
+    ∙ ap (λ t. take n (drop 16 plain) ++ t) (ap (drop n) f ∙ drop-replicate n 15 0)
 
 -- a text with zeros from n on, and at n - 1 neither 0x80 nor zero, or nothing at all, has no padding
 module _ (s m : List ℕ) (e : s ≡ padded (length s) m) where
@@ -50,6 +38,15 @@ module _ (s m : List ℕ) (e : s ≡ padded (length s) m) where
 pub no_padding : (s : List ℕ) (n : ℕ) → ((j : ℕ) → n < j → j < length s → get_or s j 0 ≡ 0) → (get_or s n 0 ≡ 128 → ⊥) → (get_or s n 0 ≡ 0 → ⊥)
     → (m : List ℕ) → length m < length s → s ≡ padded (length s) m → ⊥
 no_padding s n z p q m l e = other_found s m e n l z p q
+
+-- where the last byte that is not zero stands, there is the padding byte, or there is no padding
+pub found : (s : List ℕ) (n : ℕ) → n < length s → (get_or s n 0 ≡ 0 → ⊥) → ((j : ℕ) → n < j → j < length s → get_or s j 0 ≡ 0)
+    → MatchOption (then_some (nat_eq (get_or s n 0) 128) n) ((m : List ℕ) → length m < length s → s ≡ padded (length s) m → ⊥) (λ n. (n < length s) × (s ≡ padded (length s) (take n s)))
+found s n within not after =
+    elim (cases_eq (get_or s n 0) 128) [
+      | inl e ↦ rw (eq-eqb (get_or s n 0) 128 e) (within, is_padded s n within e after)
+      | inr d ↦ rw (ne_eqb (get_or s n 0) 128 d) (no_padding s n after d not)
+    ]
 
 -- a block that begins with the nonce has a padded message after it or none
 module _ (nonce plain : List ℕ) (l : length nonce ≡ 16) (k : length plain ≡ 32) where

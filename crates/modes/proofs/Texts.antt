@@ -1,5 +1,5 @@
 -- XOR byte by byte, padding, bytes and numbers.
-use Rattle.std.proofs.Common.{◌≡◌, ℕ, zero, suc, ◌-◌, ◌/◌, ◌%◌, ◌^◌, ◌<◌, ◌≤◌, List, [], ◌∷◌, ◌++◌, length, get_or, take, drop, set, replicate, sym, refl, ap, ◌∙◌, inl, inr, arith}
+use Rattle.std.proofs.Common.{◌≡◌, ℕ, zero, suc, ◌-◌, ◌/◌, ◌%◌, ◌^◌, ◌<◌, List, [], ◌∷◌, ◌++◌, length, get_or, take, drop, set, replicate, sym, refl, ap, ◌∙◌, inl, inr, arith}
 use lib.Bits.{bit_xor}
 use native.Mathlib.Nat.{div-div-eq-div-mul}
 use Rattle.std.proofs.lemmas.Bool.{cases_lt}
@@ -26,14 +26,13 @@ xor_all a b xs n la lb h =
     ext_get_or 0 xs (xor a b) (omega (arith, length-xor a b (omega arith)))
     (λ i l. h i (omega arith) ∙ sym (get_or-xor a b i (omega arith) (omega arith)))
 
-pub padded_is : (s ys : List ℕ) → length s ≤ 31 → ys ≡ s → set (ys ++ drop (length s - 0) (replicate 32 0)) (length s) 128 ≡ padded 32 s
+pub padded_is : (size : ℕ) (s ys : List ℕ) → length s < size → ys ≡ s → set (ys ++ drop (length s) (replicate size 0)) (length s) 128 ≡ padded size s
 unfolding padded
-padded_is s ys l e =
-    let z : length s - 0 ≡ length s = omega arith in
-    let m : 32 - length s ≡ suc (31 - length s) = omega arith in
-    ap (λ t. set (t ++ drop (length s - 0) (replicate 32 0)) (length s) 128) e
-    ∙ ap (λ t. set (s ++ t) (length s) 128) (ap (λ t. drop t (replicate 32 0)) z ∙ drop-replicate (length s) 32 0 ∙ ap (λ t. replicate t 0) m)
-    ∙ set_at s 0 (replicate (31 - length s) 0) 128 (length s) refl
+padded_is size s ys l e =
+    let m : size - length s ≡ suc (size - 1 - length s) = omega arith in
+    ap (λ t. set (t ++ drop (length s) (replicate size 0)) (length s) 128) e
+    ∙ ap (λ t. set (s ++ t) (length s) 128) (drop-replicate (length s) size 0 ∙ ap (λ t. replicate t 0) m)
+    ∙ set_at s 0 (replicate (size - 1 - length s) 0) 128 (length s) refl
 
 pub wide_is : (n : ℕ) (ys : List ℕ) → n < 2 ^ 64
     → ys ≡ (n / 72057594037927936 % 256) ∷ (n / 281474976710656 % 256) ∷ (n / 1099511627776 % 256) ∷ (n / 4294967296 % 256) ∷ (n / 16777216 % 256) ∷ (n / 65536 % 256) ∷ (n / 256 % 256) ∷ (n % 256) ∷ []

@@ -1,149 +1,158 @@
-ghost use Rattle.std.specs.Prelude.{◌≡◌, ◌/◌, [], length};
+ghost use Rattle.std.specs.Prelude.{◌≡◌, ℕ, [], length};
 ghost use Rattle.modes.specs.Bytes.{padded, full_blocks, tail_of};
-ghost use Rattle.modes.specs.Chains.{link as linked, links, chain, TakesBlock, TakesTail};
+ghost use Rattle.modes.specs.Chains.{link as linked, links, TakesBlock, TakesTail};
 
-use crate::bytes::{block_of, full_block, pad, padded_tail, xor};
+use crate::bytes::{pad, xor};
 use crate::counters::CounterBlock;
 use faults::{ModeCause, ModeFault};
-use saturnin::{Cipher, Separator, SuperRounds};
+use saturnin::{Cipher, Parameters};
+use std::marker::PhantomData;
 
 // Block `a` replaces the chain value `t`.
-pub(crate) fn link<C: Cipher>(
-    cipher: &C,
-    d: Separator,
-    r: SuperRounds,
-    t: &[u8; 32],
-    a: &[u8; 32],
-) -> [u8; 32]
-    ensures { result ≡ linked (C.Cipher.forward cipher.now) d.value r.value t.now a.now }
+fn link<C: Cipher>(cipher: &C, by: Parameters, t: &[u8; 32], a: &[u8; 32]) -> [u8; 32]
+    ensures { result ≡ linked (C.Cipher.forward cipher.now) by.d by.r t.now a.now }
 {
-    xor(a, &cipher.encrypt_block(t, d, r, a))
+    xor(a, &cipher.encrypt_block(t, by, a))
 }
 
-// All full blocks of a text.
-fn fed<C: Cipher>(
-    cipher: &C,
-    d: Separator,
-    r: SuperRounds,
-    from: [u8; 32],
-    bytes: &[u8],
-) -> [u8; 32]
-    ensures { result ≡ links (C.Cipher.forward cipher.now) d.value r.value from bytes.now (full_blocks bytes.now) }
-{
-    let mut t = from;
-    for i in 0..bytes.len() / 32 {
-        t = link(cipher, d, r, &t, &full_block(bytes, i));
+// What a chain takes: full blocks by one separator, and the tail at its end by another.
+pub trait Part {
+    ghost of_blocks: { ℕ };
+
+    ghost of_end: { ℕ };
+
+    ghost rounds: { ℕ };
+
+    fn for_blocks() -> Parameters
+        ensures { (result.d ≡ of_blocks) × (result.r ≡ rounds) };
+
+    fn for_end() -> Parameters
+        ensures { (result.d ≡ of_end) × (result.r ≡ rounds) };
+}
+
+// Associated data.
+pub struct Data;
+
+impl Part for Data {
+    ghost of_blocks = { 2 };
+
+    ghost of_end = { 3 };
+
+    ghost rounds = { 10 };
+
+    fn for_blocks() -> Parameters {
+        Parameters { d: 2, r: 10 }
     }
-    t
-}
 
-// A whole text: its full blocks by one separator, and its padded tail by another.
-pub(crate) fn absorbed<C: Cipher>(
-    cipher: &C,
-    d: Separator,
-    last: Separator,
-    r: SuperRounds,
-    from: [u8; 32],
-    bytes: &[u8],
-) -> [u8; 32]
-    ensures { result ≡ chain (C.Cipher.forward cipher.now) d.value last.value r.value from bytes.now }
-{
-    let t = fed(cipher, d, r, from, bytes);
-    link(cipher, last, r, &t, &padded_tail(bytes))
-}
-
-fn take_block<C: Cipher>(
-    cipher: &C,
-    d: Separator,
-    value: &mut [u8; 32],
-    bytes: &[u8],
-) -> Result<(), ModeFault>
-    ensures { TakesBlock (C.Cipher.forward cipher.now) d.value 10 bytes.now value.old result value.new }
-{
-    if bytes.len() != 32 {
-        return Err(ModeFault {
-            cause: ModeCause::Length,
-        });
+    fn for_end() -> Parameters {
+        Parameters { d: 3, r: 10 }
     }
-    *value = link(
-        cipher,
-        d,
-        SuperRounds { value: 10 },
-        value,
-        &block_of(bytes),
-    );
-    Ok(())
 }
 
-fn take_tail(tail: &mut [u8; 32], bytes: &[u8]) -> Result<(), ModeFault>
-    ensures { TakesTail bytes.now tail.old result tail.new }
-{
-    if bytes.len() > 31 {
-        return Err(ModeFault {
-            cause: ModeCause::Limit,
-        });
+// Ciphertext.
+pub struct Text;
+
+impl Part for Text {
+    ghost of_blocks = { 4 };
+
+    ghost of_end = { 5 };
+
+    ghost rounds = { 10 };
+
+    fn for_blocks() -> Parameters {
+        Parameters { d: 4, r: 10 }
     }
-    *tail = pad(bytes);
-    Ok(())
+
+    fn for_end() -> Parameters {
+        Parameters { d: 5, r: 10 }
+    }
 }
 
-// A chain that takes associated data: blocks, and a tail, which it holds padded. It is closed into a text chain.
+// A chain: it takes blocks, and a tail, which it holds padded.
 #[derive(Drop)]
-pub struct DataChain<'a, C> {
+pub struct Chain<'a, C, P> {
     pub(crate) cipher: &'a C,
     pub(crate) value: [u8; 32],
     pub(crate) tail: [u8; 32],
+    part: PhantomData<P>,
 }
 
-// A chain that takes ciphertext, after all data. It is closed into the tag.
-#[derive(Drop)]
-pub struct TextChain<'a, C> {
-    pub(crate) cipher: &'a C,
-    pub(crate) value: [u8; 32],
-    pub(crate) tail: [u8; 32],
+// A chain that takes associated data; it is closed into a text chain.
+pub type DataChain<'a, C> = Chain<'a, C, Data>;
+
+// A chain that takes ciphertext, after all data; it is closed into the tag.
+pub type TextChain<'a, C> = Chain<'a, C, Text>;
+
+impl<'a, C: Cipher, P: Part> Chain<'a, C, P> {
+    // A chain that starts from a value, with no tail.
+    pub(crate) fn from(cipher: &'a C, value: [u8; 32]) -> Chain<'a, C, P>
+        ensures cipher { result.cipher.now ≡ cipher.now }
+        ensures value { result.value ≡ value }
+        ensures tail { result.tail ≡ padded 32 [] }
+    {
+        Chain {
+            cipher,
+            value,
+            tail: pad(&[]),
+            part: PhantomData,
+        }
+    }
+
+    pub fn block(&mut self, bytes: &[u8]) -> Result<(), ModeFault>
+        ensures cipher { self.new.cipher.now ≡ self.old.cipher.now }
+        ensures value { TakesBlock (C.Cipher.forward self.old.cipher.now) P.of_blocks P.rounds bytes.now self.old.value result self.new.value }
+        ensures tail { self.new.tail ≡ self.old.tail }
+    {
+        let Ok(block) = bytes.try_into() else {
+            return Err(ModeCause::Length.into());
+        };
+        self.value = link(self.cipher, P::for_blocks(), &self.value, block);
+        Ok(())
+    }
+
+    pub fn tail(&mut self, bytes: &[u8]) -> Result<(), ModeFault>
+        ensures cipher { self.new.cipher.now ≡ self.old.cipher.now }
+        ensures value { self.new.value ≡ self.old.value }
+        ensures tail { TakesTail bytes.now self.old.tail result self.new.tail }
+    {
+        if bytes.len() > 31 {
+            return Err(ModeCause::Limit.into());
+        }
+        self.tail = pad(bytes);
+        Ok(())
+    }
+
+    // All full blocks of a text, and its tail.
+    pub(crate) fn feed(&mut self, bytes: &[u8])
+        ensures cipher { self.new.cipher.now ≡ self.old.cipher.now }
+        ensures value { self.new.value ≡ links (C.Cipher.forward self.old.cipher.now) P.of_blocks P.rounds self.old.value bytes.now (full_blocks bytes.now) }
+        ensures tail { self.new.tail ≡ padded 32 (tail_of bytes.now) }
+    {
+        let (blocks, tail) = bytes.as_chunks();
+        for block in blocks {
+            self.value = link(self.cipher, P::for_blocks(), &self.value, block);
+        }
+        self.tail = pad(tail);
+    }
+
+    // The value after the tail.
+    pub(crate) fn end(self) -> [u8; 32]
+        ensures { result ≡ linked (C.Cipher.forward self.entry.cipher.now) P.of_end P.rounds self.entry.value self.entry.tail }
+    {
+        link(self.cipher, P::for_end(), &self.value, &self.tail)
+    }
 }
 
-impl<'a, C: Cipher> DataChain<'a, C> {
+impl<'a, C: Cipher> Chain<'a, C, Data> {
     pub fn start(cipher: &'a C, key: &[u8; 32], counter: &CounterBlock) -> DataChain<'a, C>
         ensures cipher { result.cipher.now ≡ cipher.now }
         ensures value { result.value ≡ linked (C.Cipher.forward cipher.now) 2 10 key.now counter.now.bytes }
         ensures tail { result.tail ≡ padded 32 [] }
     {
-        let d = Separator { value: 2 };
-        let r = SuperRounds { value: 10 };
-        DataChain {
+        Chain::from(
             cipher,
-            value: link(cipher, d, r, key, &counter.bytes),
-            tail: pad(&[]),
-        }
-    }
-
-    pub fn data_block(&mut self, bytes: &[u8]) -> Result<(), ModeFault>
-        ensures cipher { self.new.cipher.now ≡ self.old.cipher.now }
-        ensures value { TakesBlock (C.Cipher.forward self.old.cipher.now) 2 10 bytes.now self.old.value result self.new.value }
-        ensures tail { self.new.tail ≡ self.old.tail }
-    {
-        take_block(self.cipher, Separator { value: 2 }, &mut self.value, bytes)
-    }
-
-    pub fn data_tail(&mut self, bytes: &[u8]) -> Result<(), ModeFault>
-        ensures cipher { self.new.cipher.now ≡ self.old.cipher.now }
-        ensures value { self.new.value ≡ self.old.value }
-        ensures tail { TakesTail bytes.now self.old.tail result self.new.tail }
-    {
-        take_tail(&mut self.tail, bytes)
-    }
-
-    // All full blocks of a text, and its tail.
-    pub(crate) fn data(&mut self, bytes: &[u8])
-        ensures cipher { self.new.cipher.now ≡ self.old.cipher.now }
-        ensures value { self.new.value ≡ links (C.Cipher.forward self.old.cipher.now) 2 10 self.old.value bytes.now (full_blocks bytes.now) }
-        ensures tail { self.new.tail ≡ padded 32 (tail_of bytes.now) }
-    {
-        let d = Separator { value: 2 };
-        let r = SuperRounds { value: 10 };
-        self.value = fed(self.cipher, d, r, self.value, bytes);
-        self.tail = padded_tail(bytes);
+            link(cipher, Data::for_blocks(), key, &counter.bytes),
+        )
     }
 
     pub fn close(self) -> TextChain<'a, C>
@@ -151,56 +160,15 @@ impl<'a, C: Cipher> DataChain<'a, C> {
         ensures value { result.value ≡ linked (C.Cipher.forward self.entry.cipher.now) 3 10 self.entry.value self.entry.tail }
         ensures tail { result.tail ≡ padded 32 [] }
     {
-        let DataChain {
-            cipher,
-            value,
-            tail,
-        } = self;
-        let d = Separator { value: 3 };
-        let r = SuperRounds { value: 10 };
-        TextChain {
-            cipher,
-            value: link(cipher, d, r, &value, &tail),
-            tail: pad(&[]),
-        }
+        Chain::from(self.cipher, self.end())
     }
 }
 
-impl<'a, C: Cipher> TextChain<'a, C> {
-    pub fn text_block(&mut self, bytes: &[u8]) -> Result<(), ModeFault>
-        ensures cipher { self.new.cipher.now ≡ self.old.cipher.now }
-        ensures value { TakesBlock (C.Cipher.forward self.old.cipher.now) 4 10 bytes.now self.old.value result self.new.value }
-        ensures tail { self.new.tail ≡ self.old.tail }
-    {
-        take_block(self.cipher, Separator { value: 4 }, &mut self.value, bytes)
-    }
-
-    pub fn text_tail(&mut self, bytes: &[u8]) -> Result<(), ModeFault>
-        ensures cipher { self.new.cipher.now ≡ self.old.cipher.now }
-        ensures value { self.new.value ≡ self.old.value }
-        ensures tail { TakesTail bytes.now self.old.tail result self.new.tail }
-    {
-        take_tail(&mut self.tail, bytes)
-    }
-
-    // All full blocks of a text, and its tail.
-    pub(crate) fn text(&mut self, bytes: &[u8])
-        ensures cipher { self.new.cipher.now ≡ self.old.cipher.now }
-        ensures value { self.new.value ≡ links (C.Cipher.forward self.old.cipher.now) 4 10 self.old.value bytes.now (full_blocks bytes.now) }
-        ensures tail { self.new.tail ≡ padded 32 (tail_of bytes.now) }
-    {
-        let d = Separator { value: 4 };
-        let r = SuperRounds { value: 10 };
-        self.value = fed(self.cipher, d, r, self.value, bytes);
-        self.tail = padded_tail(bytes);
-    }
-
+impl<C: Cipher> Chain<'_, C, Text> {
     // The tag.
     pub fn close(self) -> [u8; 32]
         ensures { result ≡ linked (C.Cipher.forward self.entry.cipher.now) 5 10 self.entry.value self.entry.tail }
     {
-        let d = Separator { value: 5 };
-        let r = SuperRounds { value: 10 };
-        link(self.cipher, d, r, &self.value, &self.tail)
+        self.end()
     }
 }

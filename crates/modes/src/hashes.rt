@@ -1,10 +1,29 @@
-ghost use Rattle.std.specs.Prelude.{◌≡◌, ℕ, ◌≤◌, MatchResult};
-ghost use Rattle.faults.specs.Tables.{By};
+ghost use Rattle.std.specs.Prelude.{◌≡◌, ℕ, ◌≤◌, length};
+ghost use Rattle.faults.specs.Tables.{Checks};
 ghost use Rattle.modes.specs.Hash.{hash as hashed, hash_table, Hashes};
 
-use crate::chains::absorbed;
+use crate::chains::{Chain, Part};
 use faults::{ModeCause, ModeFault};
-use saturnin::{Cipher, Separator, SuperRounds};
+use saturnin::{Cipher, Parameters};
+
+// A message that is hashed.
+struct Hashed;
+
+impl Part for Hashed {
+    ghost of_blocks = { 7 };
+
+    ghost of_end = { 8 };
+
+    ghost rounds = { 16 };
+
+    fn for_blocks() -> Parameters {
+        Parameters { d: 7, r: 16 }
+    }
+
+    fn for_end() -> Parameters {
+        Parameters { d: 8, r: 16 }
+    }
+}
 
 // The digest of at most 65,536 bytes, into a buffer of 32.
 pub fn hash<C: Cipher>(cipher: &C, message: &[u8], digest: &mut [u8]) -> Result<(), ModeFault>
@@ -16,18 +35,13 @@ pub fn hash<C: Cipher>(cipher: &C, message: &[u8], digest: &mut [u8]) -> Result<
 }
 
 fn hashable(message: usize, digest: usize) -> Result<(), ModeFault>
-    ensures { MatchResult result (λ _. (digest ≡ 32) × (message ≤ 65536))
-        (λ fault. By (hash_table message digest) (λ cause. fault ≡ record { cause = cause }) ⊥) }
+    ensures { Checks (hash_table message digest) (λ _. (digest ≡ 32) × (message ≤ 65536)) result }
 {
     if digest != 32 {
-        return Err(ModeFault {
-            cause: ModeCause::Length,
-        });
+        return Err(ModeCause::Length.into());
     }
     if message > 65536 {
-        return Err(ModeFault {
-            cause: ModeCause::Limit,
-        });
+        return Err(ModeCause::Limit.into());
     }
     Ok(())
 }
@@ -35,12 +49,7 @@ fn hashable(message: usize, digest: usize) -> Result<(), ModeFault>
 fn hash_of<C: Cipher>(cipher: &C, message: &[u8]) -> [u8; 32]
     ensures { result ≡ hashed (C.Cipher.forward cipher.now) message.now }
 {
-    absorbed(
-        cipher,
-        Separator { value: 7 },
-        Separator { value: 8 },
-        SuperRounds { value: 16 },
-        [0; 32],
-        message,
-    )
+    let mut chain = Chain::<C, Hashed>::from(cipher, [0; 32]);
+    chain.feed(message);
+    chain.end()
 }

@@ -7,8 +7,8 @@ mod counters;
 mod hashes;
 mod shorts;
 
-pub use cascade::{open, seal};
-pub use chains::{DataChain, TextChain};
+pub use cascade::Cascade;
+pub use chains::{Chain, Data, DataChain, Part, Text, TextChain};
 pub use counters::CounterBlock;
 pub use hashes::hash;
 pub use shorts::{open_short, seal_short};

@@ -1,12 +1,16 @@
-ghost use Rattle.std.specs.Prelude.{◌≡◌, ℕ, ◌+◌, ◌-◌, ◌<◌, ◌≤◌, List, ◌++◌, length, take, drop, MatchOption, MatchResult, ◌≢◌};
-ghost use Rattle.faults.specs.Tables.{By};
-ghost use Rattle.octets.specs.Octets.{zeros};
+ghost use Rattle.std.specs.Prelude.{◌≡◌, ℕ, ◌-◌, ◌<◌, ◌≤◌, List, ◌++◌, length, take, drop, MatchOption, ◌≢◌};
 ghost use Rattle.modes.specs.Bytes.{padded};
-ghost use Rattle.modes.specs.Short.{short_table, ShortSeals, ShortOpens, ShortOpensExactly};
+ghost use Rattle.modes.specs.Short.{ShortSeals, ShortOpens, ShortOpensExactly};
 
-use crate::bytes::{block_of, pad, wipe};
+use crate::bytes::pad;
 use faults::{ModeCause, ModeFault};
-use saturnin::{Cipher, Separator, SuperRounds, TwoWayCipher};
+use octets::paste;
+use saturnin::{Parameters, TwoWayCipher};
+
+const SHORT: Parameters = Parameters { d: 6, r: 10 };
+
+// Key and nonce are handed in as slices of their own, not in a struct: only of a parameter is it known that its elements are
+// bytes, and that `open_short` is exact rests on it.
 
 // Seals a message of at most 15 bytes under a nonce of 16 into a block of 32.
 pub fn seal_short<C: TwoWayCipher>(
@@ -18,11 +22,17 @@ pub fn seal_short<C: TwoWayCipher>(
 ) -> Result<(), ModeFault>
     ensures { ShortSeals (C.Cipher.forward cipher.now) key.now nonce.now message.now block.old result block.new }
 {
-    sealable(key.len(), nonce.len(), message.len(), block.len())?;
-    let d = Separator { value: 6 };
-    let r = SuperRounds { value: 10 };
+    let Ok(key) = key.try_into() else {
+        return Err(ModeCause::Length.into());
+    };
+    if nonce.len() != 16 || block.len() != 32 {
+        return Err(ModeCause::Length.into());
+    }
+    if message.len() > 15 {
+        return Err(ModeCause::Limit.into());
+    }
     let plain = short_block(nonce, message);
-    block.copy_from_slice(&cipher.encrypt_block(&block_of(key), d, r, &plain));
+    block.copy_from_slice(&cipher.encrypt_block(key, SHORT, &plain));
     Ok(())
 }
 
@@ -50,39 +60,19 @@ fn opened<C: TwoWayCipher>(
 ) -> Result<usize, ModeFault>
     ensures { ShortOpens (C.TwoWayCipher.back cipher.now) key.now nonce.now block.now out.old result out.new }
 {
-    if key.len() != 32 || nonce.len() != 16 || block.len() != 32 || out.len() != 15 {
-        return Err(ModeFault {
-            cause: ModeCause::Length,
-        });
-    }
-    let d = Separator { value: 6 };
-    let r = SuperRounds { value: 10 };
-    let plain = cipher.decrypt_block(&block_of(key), d, r, &block_of(block));
-    let Some(n) = message_length(nonce, &plain) else {
-        wipe(out);
-        return Err(ModeFault {
-            cause: ModeCause::Slip,
-        });
+    let (Ok(key), Ok(block)) = (key.try_into(), block.try_into()) else {
+        return Err(ModeCause::Length.into());
     };
-    put_message(out, &plain, n);
+    if nonce.len() != 16 || out.len() != 15 {
+        return Err(ModeCause::Length.into());
+    }
+    let plain = cipher.decrypt_block(key, SHORT, block);
+    out.fill(0);
+    let Some(n) = message_length(nonce, &plain) else {
+        return Err(ModeCause::Slip.into());
+    };
+    out[..n].copy_from_slice(&plain[16..16 + n]);
     Ok(n)
-}
-
-fn sealable(key: usize, nonce: usize, message: usize, block: usize) -> Result<(), ModeFault>
-    ensures { MatchResult result (λ _. (key ≡ 32) × (nonce ≡ 16) × (block ≡ 32) × (message ≤ 15))
-        (λ fault. By (short_table key nonce message block) (λ cause. fault ≡ record { cause = cause }) ⊥) }
-{
-    if key != 32 || nonce != 16 || block != 32 {
-        return Err(ModeFault {
-            cause: ModeCause::Length,
-        });
-    }
-    if message > 15 {
-        return Err(ModeFault {
-            cause: ModeCause::Limit,
-        });
-    }
-    Ok(())
 }
 
 // The nonce, the message, 0x80 and zeros.
@@ -90,18 +80,10 @@ fn short_block(nonce: &[u8], message: &[u8]) -> [u8; 32]
     requires { (length nonce.now ≡ 16) × (length message.now ≤ 15) }
     ensures { result ≡ nonce.now ++ padded 16 message.now }
 {
-    let mut front = [0; 31];
-    paste(&mut front, 0, nonce);
-    paste(&mut front, 16, message);
-    pad(&front[0..16 + message.len()])
-}
-
-// Writes `src` at `at`: the front then ends with it.
-fn paste(dst: &mut [u8], at: usize, src: &[u8])
-    requires { at + length src.now ≤ length dst.old }
-    ensures { take (at + length src.now) dst.new ≡ take at dst.old ++ src.now }
-{
-    dst[at..at + src.len()].copy_from_slice(src);
+    let mut out = [0; 32];
+    paste(&mut out, 0, nonce);
+    paste(&mut out, 16, &pad::<16>(message));
+    out
 }
 
 // The length of the message in a block with this nonce and a padding.
@@ -111,10 +93,10 @@ fn message_length(nonce: &[u8], plain: &[u8; 32]) -> Option<usize>
         ((m : List ℕ) → length m ≤ 15 → plain.now ≢ nonce.now ++ padded 16 m)
         (λ n. (n ≤ 15) × (plain.now ≡ nonce.now ++ padded 16 (take n (drop 16 plain.now)))) }
 {
-    if nonce != &plain[0..16] {
+    if nonce != &plain[..16] {
         return None;
     }
-    padding(&plain[16..32])
+    padding(&plain[16..])
 }
 
 // Where the padding byte stands, with only zeros after it.
@@ -123,21 +105,6 @@ fn padding(s: &[u8]) -> Option<usize>
         ((m : List ℕ) → length m < length s.now → s.now ≢ padded (length s.now) m)
         (λ n. (n < length s.now) × (s.now ≡ padded (length s.now) (take n s.now))) }
 {
-    for i in (0..s.len()).rev() {
-        if s[i] == 0x80 {
-            return Some(i);
-        }
-        if s[i] != 0 {
-            return None;
-        }
-    }
-    None
-}
-
-fn put_message(out: &mut [u8], plain: &[u8; 32], n: usize)
-    requires { (length out.old ≡ 15) × (n ≤ 15) }
-    ensures { out.new ≡ take n (drop 16 plain.now) ++ zeros (15 - n) }
-{
-    wipe(out);
-    out[0..n].copy_from_slice(&plain[16..16 + n]);
+    let n = s.iter().rposition(|b| *b != 0)?;
+    (s[n] == 0x80).then_some(n)
 }

@@ -1,18 +1,17 @@
-use Rattle.std.proofs.Common.{ℕ, ◌-◌, arith, rules}
-use Rattle.modes.proofs.Texts.{is_padded}
-use Rattle.modes.proofs.Paddings.{none_found, no_padding}
+use Rattle.std.proofs.Common.{◌≡◌, ℕ, ◌<◌, length, get_or, rules}
+use Rattle.modes.proofs.Paddings.{none_found, found}
 use Rattle.modes.proofs.shorts.padding.Goals as goal
 
-pub returns-then-s-i : goal.returns-then-s-i
-returns-then-s-i c =
-    let s = c.args.s.now in
-    let n : ℕ = c.loop-i.i - 1 in
-    (omega arith, is_padded s n (omega arith) (search rules) (λ j h k. c.loop-i.invariant j (omega arith) k))
-
-pub returns-then-s-i-ne0 : goal.returns-then-s-i-ne0
-returns-then-s-i-ne0 c =
-    let n : ℕ = c.loop-i.i - 1 in
-    no_padding c.args.s.now n (λ j h k. c.loop-i.invariant j (omega arith) k) (search rules) (search rules)
+pub returns-in_err-n : goal.returns-in_err-n
+returns-in_err-n c =
+    let zero : (j : ℕ) → j < length c.args.s.now → get_or c.args.s.now j 0 ≡ 0 = λ j h. search rules in
+    rw c.from_residual.ensures (λ m l e. none_found c.args.s.now m e l zero)
 
 pub returns : goal.returns
-returns c m l e = none_found c.args.s.now m e l (λ j h. c.loop-i.invariant j (omega arith) h)
+returns c =
+    let s = c.args.s.now in
+    let n = c.in_ok-n.n in
+    let within : n < length s = search rules in
+    let here : get_or s n 0 ≡ 0 → ⊥ = search rules in
+    let after : (j : ℕ) → n < j → j < length s → get_or s j 0 ≡ 0 = λ j h k. search rules in
+    rw c.then_some.ensures (found s n within here after)

@@ -1,6 +1,6 @@
 use Rattle.std.proofs.Common.{rules}
 use Rattle.modes.specs.Cascade.{keystream}
-use Rattle.modes.proofs.cascade.keystream_block.Goals as goal
+use Rattle.modes.proofs.cascade.Keyed.keystream_block.Goals as goal
 
 pub returns : goal.returns
 unfolding keystream

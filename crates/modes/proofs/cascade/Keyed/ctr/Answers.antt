@@ -1,14 +1,14 @@
 use Rattle.std.proofs.Common.{◌≡◌, ◌/◌, length, ap, ◌∙◌, rules}
 use Rattle.modes.specs.Cascade.{keystream}
 use Rattle.modes.proofs.Streams.{same_block, low_more, high_more, ctr-all}
-use Rattle.modes.proofs.cascade.ctr.Goals as goal
-use Rattle.modes.proofs.cascade.ctr.Goals.{then-j-eq0, else-j-eq0}
+use Rattle.modes.proofs.cascade.Keyed.ctr.Goals as goal
+use Rattle.modes.proofs.cascade.Keyed.ctr.Goals.{then-j-eq0, else-j-eq0}
 
 pub loop-j-preserved : goal.loop-j-preserved
 loop-j-preserved g c =
-    let f = g.C.Cipher.forward c.args.cipher.now in
-    let key = c.args.key.now in
-    let nonce = c.args.nonce.now in
+    let f = g.C.Cipher.forward c.args.self.now.cipher.now in
+    let key = c.args.self.now.key.now in
+    let nonce = c.args.self.now.nonce.bytes.now in
     let xs = c.args.out.now in
     let ys = c.loop-j.out in
     let j = c.loop-j.j in

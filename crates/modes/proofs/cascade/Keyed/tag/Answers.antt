@@ -1,6 +1,6 @@
 use Rattle.std.proofs.Common.{rules}
 use Rattle.modes.specs.Cascade.{tag}
-use Rattle.modes.proofs.cascade.tag_of.Goals as goal
+use Rattle.modes.proofs.cascade.Keyed.tag.Goals as goal
 
 pub returns : goal.returns
 unfolding tag
