@@ -1,11 +1,7 @@
 -- A locked file by its parts.
 use Rattle.std.proofs.Common.{◌≡◌, ℕ, ◌+◌, ◌-◌, ◌≤◌, List, [], ◌++◌, length, take, drop, sym, refl, ap, ◌∙◌, append_assoc, append-nil, arith}
-use borrow.Rule.Slice.PartMut.{put_mid, post_of, Post-is}
+use borrow.Rule.Slice.PartMut.{put_mid}
 use Rattle.std.proofs.lemmas.List.{length-append, length-take, length-drop, take_at, drop_at, take-append-drop, drop-drop, drop_all}
-
-pub put_is : (at n : ℕ) (xs ys zs : List ℕ) → ys ≡ zs → put_mid at (at + n - at) xs ys ≡ take at xs ++ (zs ++ drop (at + n) xs)
-put_is at n xs ys zs e =
-    ap (λ t. take at xs ++ (t ++ post_of at (at + n - at) xs)) e ∙ ap (λ t. take at xs ++ (zs ++ t)) (Post-is at (at + n) xs (omega arith))
 
 pub put_end : (at : ℕ) (xs ys : List ℕ) → at ≤ length xs → put_mid at (length xs - at) xs ys ≡ take at xs ++ ys
 put_end at xs ys h =

@@ -1,10 +1,12 @@
 #![tactic(auto)]
 
-ghost use Rattle.std.specs.Prelude.{◌≡◌, ◌+◌, ◌≤◌, ◌++◌, length, take, drop, MatchResult};
-ghost use Rattle.faults.specs.Tables.{By};
+ghost use Rattle.std.specs.Prelude.{◌≡◌, ◌+◌, ◌≤◌};
+ghost use Rattle.faults.specs.Tables.{Checks};
 ghost use Rattle.locked.specs.Locked.{lock_table, Locks, Unlocks};
 
 use faults::{ModeCause, ModeFault};
+use modes::Cascade;
+use octets::paste;
 use saturnin::Cipher;
 
 const MAGIC: &[u8] = b"MGL1";
@@ -21,15 +23,13 @@ pub fn lock<C: Cipher>(
 {
     lockable(key.len(), nonce.len(), message.len(), file.len())?;
     let mut tag = [0; 32];
-    let _ = modes::seal(
+    let under = Cascade {
         cipher,
         key,
         nonce,
-        MAGIC,
-        message,
-        &mut file[56..],
-        &mut tag,
-    );
+        associated: MAGIC,
+    };
+    let _ = under.seal(message, &mut file[56..], &mut tag);
     paste(file, 0, MAGIC);
     paste(file, 4, nonce);
     paste(file, 24, &tag);
@@ -37,18 +37,13 @@ pub fn lock<C: Cipher>(
 }
 
 fn lockable(key: usize, nonce: usize, message: usize, file: usize) -> Result<(), ModeFault>
-    ensures { MatchResult result (λ _. (key ≡ 32) × (nonce ≡ 20) × (file ≡ 56 + message) × (message ≤ 65536))
-        (λ fault. By (lock_table key nonce message file) (λ cause. fault ≡ record { cause = cause }) ⊥) }
+    ensures { Checks (lock_table key nonce message file) (λ _. (key ≡ 32) × (nonce ≡ 20) × (file ≡ 56 + message) × (message ≤ 65536)) result }
 {
     if key != 32 || nonce != 20 || file < 56 || file - 56 != message {
-        return Err(ModeFault {
-            cause: ModeCause::Length,
-        });
+        return Err(ModeCause::Length.into());
     }
     if message > 65536 {
-        return Err(ModeFault {
-            cause: ModeCause::Limit,
-        });
+        return Err(ModeCause::Limit.into());
     }
     Ok(())
 }
@@ -63,36 +58,20 @@ pub fn unlock<C: Cipher>(
     ensures { Unlocks (C.Cipher.forward cipher.now) key.now file.now out.old result out.new }
 {
     if key.len() != 32 || file.len() < 56 || file.len() - 56 != out.len() {
-        return Err(ModeFault {
-            cause: ModeCause::Length,
-        });
+        return Err(ModeCause::Length.into());
     }
     if out.len() > 65536 {
-        return Err(ModeFault {
-            cause: ModeCause::Limit,
-        });
+        return Err(ModeCause::Limit.into());
     }
-    if &file[0..4] != MAGIC {
+    if &file[..4] != MAGIC {
         out.fill(0);
-        return Err(ModeFault {
-            cause: ModeCause::Tag,
-        });
+        return Err(ModeCause::Tag.into());
     }
-    modes::open(
+    let under = Cascade {
         cipher,
         key,
-        &file[4..24],
-        MAGIC,
-        &file[56..],
-        &file[24..56],
-        out,
-    )
-}
-
-// Writes `src` at `at`.
-fn paste(dst: &mut [u8], at: usize, src: &[u8])
-    requires { at + length src.now ≤ length dst.old }
-    ensures { dst.new ≡ take at dst.old ++ (src.now ++ drop (at + length src.now) dst.old) }
-{
-    dst[at..at + src.len()].copy_from_slice(src);
+        nonce: &file[4..24],
+        associated: MAGIC,
+    };
+    under.open(&file[56..], &file[24..56], out)
 }

@@ -1,4 +1,4 @@
-ghost use Rattle.std.specs.Prelude.{◌≡◌, ◌+◌, ◌≤◌, length, None, Ok, Err, MatchResult};
+ghost use Rattle.std.specs.Prelude.{◌≡◌, None, Ok, Err, MatchResult};
 ghost use Rattle.faults.specs.Tables.{By, Not};
 ghost use Rattle.sheets.specs.Records.{empty, number_in as number_of};
 ghost use Rattle.sheets.specs.Sheets.{length_in as length_of, WellFormed};
@@ -7,6 +7,7 @@ ghost use Rattle.sealing.specs.Sealing.{form_table, open_sheet_table, opened as 
 use crate::found::Found;
 use crate::seals::associated;
 use faults::{BoxCause, BoxFault};
+use modes::Cascade;
 use saturnin::Cipher;
 use sheets::number_in;
 
@@ -24,66 +25,54 @@ pub fn open_sheet<C: Cipher>(
     match opened(cipher, key, place, bytes, &mut room) {
         Ok(length) => Ok(Found { number, length }),
         Err(fault) => {
-            octets::wipe(bytes);
+            bytes.fill(0);
             Err(fault)
         }
     }
 }
 
-// The same, with room for a message; a refusal leaves the record as it was. The length of the message.
+// The same, with room for a message; a refusal leaves the record as it was. It gives the length of the message.
 fn opened<C: Cipher>(
     cipher: &C,
     key: &[u8; 32],
     place: u32,
-    bytes: &mut [u8],
-    room: &mut [u8],
+    bytes: &mut [u8; 1024],
+    room: &mut [u8; 928],
 ) -> Result<usize, BoxFault>
-    requires { (length bytes.old ≡ 1024) × (length room.old ≡ 928) }
     ensures { By (open_sheet_table (C.Cipher.forward cipher.now) key.now place bytes.old)
         (λ cause. result ≡ Err (record { cause = cause; place = None }))
         ((result ≡ Ok (length_of bytes.old)) × (bytes.new ≡ opened_bytes (C.Cipher.forward cipher.now) key.now bytes.old)) }
 {
     let n = text_length(bytes)?;
-    let data = associated(place, &bytes[16..64]);
-    let message = &mut room[0..n];
-    modes::open(
+    let under = Cascade {
         cipher,
         key,
-        &bytes[0..16],
-        &data,
-        &bytes[64..64 + n],
-        &bytes[992..1024],
-        message,
-    )?;
+        nonce: &bytes[..16],
+        associated: &associated(place, &bytes[16..64]),
+    };
+    let message = &mut room[..n];
+    under.open(&bytes[64..64 + n], &bytes[992..], message)?;
     octets::paste(bytes, 64, message);
     Ok(n)
 }
 
 // The length of the message in a record that holds one and is well-formed.
-fn text_length(bytes: &[u8]) -> Result<usize, BoxFault>
-    requires { length bytes.now ≡ 1024 }
+fn text_length(bytes: &[u8; 1024]) -> Result<usize, BoxFault>
     ensures { MatchResult result (λ n. (n ≡ length_of bytes.now) × Not (bytes.now ≡ empty) × WellFormed bytes.now)
         (λ fault. By (form_table bytes.now) (λ cause. fault ≡ record { cause = cause; place = None }) ⊥) }
 {
     if octets::is_zero(bytes) {
-        return Err(BoxFault {
-            cause: BoxCause::Empty,
-            place: None,
-        });
+        return Err(BoxCause::Empty.into());
     }
     let n = length_in(bytes) as usize;
     if n > 928 || !octets::is_zero(&bytes[64 + n..992]) {
-        return Err(BoxFault {
-            cause: BoxCause::Filling,
-            place: None,
-        });
+        return Err(BoxCause::Filling.into());
     }
     Ok(n)
 }
 
 // The length of a record's message, as its bytes say.
-fn length_in(bytes: &[u8]) -> u16
-    requires { length bytes.now ≡ 1024 }
+fn length_in(bytes: &[u8; 1024]) -> u16
     ensures { result ≡ length_of bytes.now }
 {
     u16::from_be_bytes([bytes[62], bytes[63]])

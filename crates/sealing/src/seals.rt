@@ -4,6 +4,7 @@ ghost use Rattle.sheets.specs.Sheets.{associated as associated_of};
 ghost use Rattle.sealing.specs.Sealing.{SealsSheet};
 
 use faults::{ModeCause, ModeFault};
+use modes::Cascade;
 use octets::paste;
 use saturnin::Cipher;
 
@@ -20,16 +21,19 @@ pub fn seal_sheet<C: Cipher>(
     ensures { SealsSheet (C.Cipher.forward cipher.now) key.now nonce.now place label.now message.now bytes.old result bytes.new }
 {
     if message.len() > 928 {
-        return Err(ModeFault {
-            cause: ModeCause::Limit,
-        });
+        return Err(ModeCause::Limit.into());
     }
     let head = head_of(label, message.len() as u16);
     let associated = associated(place, &head);
     let mut tag = [0; 32];
-    octets::wipe(bytes);
-    let text = &mut bytes[64..64 + message.len()];
-    let _ = modes::seal(cipher, key, nonce, &associated, message, text, &mut tag);
+    let under = Cascade {
+        cipher,
+        key,
+        nonce,
+        associated: &associated,
+    };
+    bytes.fill(0);
+    let _ = under.seal(message, &mut bytes[64..64 + message.len()], &mut tag);
     paste(bytes, 0, nonce);
     paste(bytes, 16, &head);
     paste(bytes, 992, &tag);

@@ -23,7 +23,7 @@ returns g c =
         λ m. (
           refl,
           laid_out magic nonce c.seal.new.tag c.seal.new.out (take 56 file) _ _ _ _ refl ok.1 tag-long head (put_end 56 file c.seal.new.out long)
-              c.paste.ensures c.paste-2.ensures c.paste-3.ensures
+              (c.paste.ensures.fitting (search rules)) (c.paste-2.ensures.fitting (search rules)) (c.paste-3.ensures.fitting (search rules))
               ∙ ap₂ (λ s t. magic ++ (nonce ++ (s ++ t))) d.2 d.1,
         ),
       ),

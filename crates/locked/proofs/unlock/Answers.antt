@@ -1,4 +1,4 @@
-use Rattle.std.proofs.Common.{◌≡◌, not, take, sym, refl, ap, ◌∙◌, subst, inl, inr, arith}
+use Rattle.std.proofs.Common.{◌≡◌, not, take, Err, sym, ap, ◌∙◌, subst, inl, inr, arith}
 use Rattle.std.specs.Str.{bytes_eq}
 use Rattle.std.proofs.lemmas.Slice.Eq.{bytes_eq-Decides}
 use Rattle.std.proofs.lemmas.List.{take_rest}
@@ -14,7 +14,7 @@ returns-then-ne g c =
     let d = bytes_eq-Decides (take 4 c.args.file.now) magic in
     other_word f (g.met.C.Cipher.gives_blocks c.args.cipher.now) c.args.key.now c.args.file.now c.args.out.now
     (λ i. (c.type_inv.key i).fits) (λ i. (c.type_inv.file i).fits) _ c.fill.new.self (λ i. (c.type_inv.out i).fits) (omega arith) (omega arith) (omega arith)
-    (λ q. true≢false (sym c.if-ne.true ∙ c.ne.ensures ∙ ap not (d.1 q))) refl (c.fill.ensures.after (λ y e. e))
+    (λ q. true≢false (sym c.if-ne.true ∙ c.ne.ensures ∙ ap not (d.1 q))) (ap Err c.into-then-ne.ensures) (c.fill.ensures.after (λ y e. e))
 
 pub returns : goal.returns
 returns g c =
