@@ -13,10 +13,3 @@ pub spelled_more : (bs : List ℕ) (i : ℕ) → i < length bs
     → spelled (take (i + 1) bs) ≡ spelled (take i bs) ++ (digit_char (get_or bs i 0 / 16) ∷ digit_char (get_or bs i 0 % 16) ∷ [])
 unfolding spelled
 spelled_more bs i h = ap spelled (take_more bs i 0 h) ∙ spelled-append (take i bs) (get_or bs i 0 ∷ [])
-
-pub two_pushed : (s t u : List ℕ) (x y : ℕ) → t ≡ s ++ (x ∷ []) → u ≡ t ++ (y ∷ []) → u ≡ s ++ (x ∷ y ∷ [])
-two_pushed s t u x y e f = f ∙ ap (λ l. l ++ (y ∷ [])) e ∙ go s
-  where
-    go : (s : List ℕ) → (s ++ (x ∷ [])) ++ (y ∷ []) ≡ s ++ (x ∷ y ∷ [])
-    go [] = refl
-    go (z ∷ s) = ap (λ l. z ∷ l) (go s)

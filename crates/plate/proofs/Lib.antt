@@ -1,2 +1,3 @@
-pub mod Filling
 pub mod Marks
+pub mod Ranges
+pub mod Filling

@@ -14,19 +14,15 @@ fn mark(memory: &[u8], j: usize) -> u32
     requires { j < cells memory.now }
     ensures { result ≡ mark_of memory.now j }
 {
-    256 * memory[1026 * j] as u32 + memory[1026 * j + 1] as u32
+    u16::from_be_bytes([memory[1026 * j], memory[1026 * j + 1]]) as u32
 }
 
 pub(crate) fn count_used(memory: &[u8]) -> usize
     ensures { result ≡ used memory.now (cells memory.now) }
 {
-    let mut used = 0;
-    for j in 0..cells_in(memory.len()) {
-        if mark(memory, j) != 0 {
-            used += 1;
-        }
-    }
-    used
+    (0..cells_in(memory.len()))
+        .filter(|j| mark(memory, *j) != 0)
+        .count()
 }
 
 // Whether no mark is above the count of places.
@@ -35,24 +31,14 @@ pub(crate) fn marks_fit(memory: &[u8], places: u32) -> bool
         (NoMarkAbove memory.now places)
         ((j : ℕ) × (j < cells memory.now) × (places < mark_of memory.now j)) }
 {
-    for j in 0..cells_in(memory.len()) {
-        if mark(memory, j) > places {
-            return false;
-        }
-    }
-    true
+    (0..cells_in(memory.len())).all(|j| mark(memory, j) <= places)
 }
 
 // Whether a used cell comes straight after an unused one.
 pub(crate) fn has_gap(memory: &[u8]) -> bool
     ensures { MatchBool result ((j : ℕ) × GapAfter memory.now j) (NoGapAfterAny memory.now) }
 {
-    for j in 1..cells_in(memory.len()) {
-        if mark(memory, j - 1) == 0 && mark(memory, j) != 0 {
-            return true;
-        }
-    }
-    false
+    (1..cells_in(memory.len())).any(|j| mark(memory, j - 1) == 0 && mark(memory, j) != 0)
 }
 
 // The last of the first n cells that has the mark of a place: the search goes on in the cells before.
@@ -60,11 +46,10 @@ pub(crate) fn last_cell_of(memory: &[u8], place: u32, n: usize) -> Option<usize>
     requires { (n ≤ cells memory.now) × (place < 4096) }
     ensures { result ≡ last_cell memory.now place n }
 {
-    if n == 0 {
-        return None;
+    let last = n.checked_sub(1)?;
+    if mark(memory, last) == place + 1 {
+        Some(last)
+    } else {
+        last_cell_of(memory, place, last)
     }
-    if mark(memory, n - 1) == place + 1 {
-        return Some(n - 1);
-    }
-    last_cell_of(memory, place, n - 1)
 }

@@ -26,13 +26,10 @@ impl<'a> Plate<'a> {
     pub fn check(memory: &[u8], places: u32) -> Result<(), ShelfFault>
         ensures { Answers (fit_table memory.now places) None result }
     {
-        if places < 1 || places > 4096 || !marks_fit(memory, places) || has_gap(memory) {
-            return Err(ShelfFault {
-                cause: ShelfCause::Unfit,
-                place: None,
-            });
+        match places {
+            1..=4096 if marks_fit(memory, places) && !has_gap(memory) => Ok(()),
+            _ => Err(ShelfCause::Unfit.into()),
         }
-        Ok(())
     }
 
     pub fn new(memory: &'a mut [u8], places: u32) -> Plate<'a>
@@ -41,9 +38,10 @@ impl<'a> Plate<'a> {
         ensures places { By (fit_table memory.old places) (λ _. result.places ≡ 0) (result.places ≡ places) }
     {
         let used = count_used(memory);
-        let places = match Plate::check(memory, places) {
-            Ok(()) => places,
-            Err(_) => 0,
+        let places = if Plate::check(memory, places).is_ok() {
+            places
+        } else {
+            0
         };
         Plate {
             memory,
@@ -62,15 +60,6 @@ impl<'a> Plate<'a> {
         }
         last_cell_of(self.memory, place, cells_in(self.memory.len()))
     }
-}
-
-// Writes bytes from one place of a memory on.
-fn write(memory: &mut &mut [u8], from: usize, part: &[u8])
-    requires { from + length part.now ≤ length memory.old.now }
-    ensures memory { memory.new.now ≡ written from part.now memory.old.now }
-    ensures lent { memory.new.ghost_name ≡ memory.old.ghost_name }
-{
-    memory[from..from + part.len()].copy_from_slice(part);
 }
 
 impl Shelf for Plate<'_> {
@@ -92,7 +81,7 @@ impl Shelf for Plate<'_> {
         self.allows_get(place, buffer.len())?;
         match self.last_cell(place) {
             Some(j) => buffer.copy_from_slice(&self.memory[1026 * j + 2..1026 * j + 1026]),
-            None => octets::wipe(buffer),
+            None => buffer.fill(0),
         }
         Ok(())
     }
@@ -100,9 +89,9 @@ impl Shelf for Plate<'_> {
     fn put(&mut self, place: u32, bytes: &[u8]) -> Result<(), ShelfFault> {
         self.allows_put(place, bytes.len())?;
         let from = 1026 * self.used;
-        let mark = (place as u16 + 1).to_be_bytes();
-        write(&mut self.memory, from + 2, bytes);
-        write(&mut self.memory, from, &mark);
+        let cell = &mut self.memory[from..from + 1026];
+        cell[..2].copy_from_slice(&(place as u16 + 1).to_be_bytes());
+        cell[2..].copy_from_slice(bytes);
         self.used += 1;
         Ok(())
     }

@@ -2,14 +2,13 @@
 use Rattle.std.proofs.Common.{◌≡◌, ℕ, ◌+◌, ◌*◌, ◌/◌, ◌%◌, ◌<◌, ◌≤◌, eqb, ltb, ◌⊎◌, List, ◌++◌, length, get_or, drop, Some, None, Ok, Option, sym, refl, ap, ◌∙◌, subst, ap₂, inl, inr, ⊎_elim, arith}
 use Rattle.std.proofs.lemmas.List.{length-take, length-drop, length-replicate}
 use Rattle.std.proofs.lemmas.Bool.{ltb-true, lt-ltb, ne_eqb, cases_lt, cases_eq, and_parts, and_from}
-use Rattle.faults.specs.Tables.{Not, Clear}
+use Rattle.faults.specs.Tables.{Not}
 use Rattle.octets.specs.Octets.{part, written, big_endian}
-use Rattle.modes.proofs.Counting.{length-big_endian}
 use Rattle.octets.proofs.Writes.{length-written, drop-written, part-written, part_below, part_above, get_or-written, get_or-apart, written-before}
-use Rattle.shelf.specs.Meaning.{Lawful, Puts, put_table}
+use Rattle.shelf.specs.Meaning.{Lawful, Puts, Answers, put_table}
 use Rattle.shelf.specs.Plates.{plate_cells, cells, mark, cell_bytes, Fit, used, last_cell, LastCell, held, plate, PlateStores}
 use Rattle.shelf.proofs.Cells.{Front, last_law, last_is, last_same, front_used, front_one, first-unused}
-use Rattle.shelf.proofs.Tables.{put_clear, put_done}
+use Rattle.shelf.proofs.Tables.{put_allowed, put_done}
 
 module _ (memory : List ℕ) where
   held-long : (p : ℕ) (o : Option ℕ) → LastCell memory p (cells memory) o → length (held memory o) ≡ 1024
@@ -23,15 +22,19 @@ module _ (memory : List ℕ) where
     whole = λ p h. held-long p (last_cell memory p (cells memory)) (last_law memory p (cells memory));
   }
 
+mark-long : (n : ℕ) → length (big_endian 2 n) ≡ 2
+unfolding big_endian
+mark-long n = refl
+
 -- a put that no row refuses finds an unused cell
-pub plate_room : (memory bytes : List ℕ) (places p : ℕ) → Clear (put_table (plate memory places) p (length bytes)) → used memory (cells memory) < cells memory
-plate_room memory bytes places p free =
+pub plate_room : (memory bytes : List ℕ) (places p : ℕ) → Answers (put_table (plate memory places) p (length bytes)) (Some p) (Ok tt) → used memory (cells memory) < cells memory
+plate_room memory bytes places p allowed =
     ltb-true (used memory (cells memory)) (cells memory)
-    (and_parts (ltb p places) (ltb (used memory (cells memory)) (cells memory)) (put_clear (plate memory places) p (length bytes) free).2).1
+    (and_parts (ltb p places) (ltb (used memory (cells memory)) (cells memory)) (put_allowed (plate memory places) p (length bytes) allowed).2).1
 
 -- a put that no row refuses, which has written mark and record into the cell after the used ones
 module _ (memory bytes memory' : List ℕ) (places p : ℕ) (fit : Fit memory places)
-    (free : Clear (put_table (plate memory places) p (length bytes)))
+    (allowed : Answers (put_table (plate memory places) p (length bytes)) (Some p) (Ok tt))
     (e : memory' ≡ written (1026 * used memory (cells memory)) (big_endian 2 (p + 1) ++ bytes) memory) where
   u : ℕ
   u = used memory (cells memory)
@@ -43,14 +46,14 @@ module _ (memory bytes memory' : List ℕ) (places p : ℕ) (fit : Fit memory pl
   cell = big_endian 2 (p + 1) ++ bytes
 
   inside : p < places
-  inside = (put_clear (plate memory places) p (length bytes) free).1
+  inside = (put_allowed (plate memory places) p (length bytes) allowed).1
 
   size : length bytes ≡ 1024
-  size = (put_clear (plate memory places) p (length bytes) free).0
+  size = (put_allowed (plate memory places) p (length bytes) allowed).0
 
   room : u < cells memory
   unfolding u
-  room = plate_room memory bytes places p free
+  room = plate_room memory bytes places p allowed
 
   cell-long : length cell ≡ 1026
   unfolding cell big_endian
@@ -106,7 +109,7 @@ module _ (memory bytes memory' : List ℕ) (places p : ℕ) (fit : Fit memory pl
   unfolding from cell
   record_here =
       let sign : List ℕ = big_endian 2 (p + 1) in
-      let two : length sign ≡ 2 = length-big_endian 2 (p + 1) in
+      let two : length sign ≡ 2 = mark-long (p + 1) in
       let fits' : from + length sign + length bytes ≤ length memory = omega (arith, fits, cell-long, two, size) in
       let later : List ℕ = written (from + length sign) bytes memory in
       after (λ m. cell_bytes m u ≡ bytes)
@@ -151,7 +154,7 @@ module _ (memory bytes memory' : List ℕ) (places p : ℕ) (fit : Fit memory pl
 
   pub plate_puts : Puts (plate memory places) p bytes (Ok tt) (plate memory' places)
   unfolding u
-  plate_puts = put_done (plate memory places) p bytes (plate memory' places) free (record {
+  plate_puts = put_done (plate memory places) p bytes (plate memory' places) allowed (record {
     count = refl;
     here = ap (λ n. held memory' (last_cell memory' p n)) same_cells ∙ ap (held memory') last-here ∙ record_here;
     elsewhere = λ q l ne.

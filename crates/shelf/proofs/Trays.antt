@@ -1,13 +1,12 @@
 -- Trays are shelves.
-use Rattle.std.proofs.Common.{◌≡◌, ℕ, ◌+◌, ◌*◌, ◌<◌, ◌≤◌, true, ltb, ◌⊎◌, List, length, drop, Ok, sym, ap, subst, inl, inr, ⊎_elim, arith}
+use Rattle.std.proofs.Common.{◌≡◌, ℕ, ◌+◌, ◌*◌, ◌<◌, ◌≤◌, true, ltb, ◌⊎◌, List, length, drop, Some, None, Ok, sym, ap, subst, inl, inr, ⊎_elim, arith}
 use Rattle.std.proofs.lemmas.List.{length-take, length-drop}
 use Rattle.std.proofs.lemmas.Bool.{ltb-true, cases_lt}
-use Rattle.faults.specs.Tables.{Clear}
 use Rattle.octets.specs.Octets.{part, written}
 use Rattle.octets.proofs.Writes.{length-written, drop-written, part-written, part_below, part_above}
-use Rattle.shelf.specs.Meaning.{Lawful, Puts, put_table}
+use Rattle.shelf.specs.Meaning.{Lawful, Puts, Answers, put_table}
 use Rattle.shelf.specs.Trays.{tray, tray_places, TrayStores}
-use Rattle.shelf.proofs.Tables.{put_clear, put_done}
+use Rattle.shelf.proofs.Tables.{put_allowed, put_done}
 
 pub tray_lawful : (memory : List ℕ) → Lawful (tray memory)
 tray_lawful memory = record {
@@ -17,19 +16,19 @@ tray_lawful memory = record {
 }
 
 -- a put that no row refuses fits
-pub tray_fits : (memory bytes : List ℕ) (p : ℕ) → Clear (put_table (tray memory) p (length bytes)) → 1024 * p + length bytes ≤ length memory
-tray_fits memory bytes p free = let ok = put_clear (tray memory) p (length bytes) free in omega (arith, ok.0, ok.1)
+pub tray_fits : (memory bytes : List ℕ) (p : ℕ) → Answers (put_table (tray memory) p (length bytes)) (Some p) (Ok tt) → 1024 * p + length bytes ≤ length memory
+tray_fits memory bytes p allowed = let ok = put_allowed (tray memory) p (length bytes) allowed in omega (arith, ok.0, ok.1)
 
 -- and has then written the bytes at their place
-module _ (memory bytes memory' : List ℕ) (p : ℕ) (free : Clear (put_table (tray memory) p (length bytes))) (e : memory' ≡ written (1024 * p) bytes memory) where
+module _ (memory bytes memory' : List ℕ) (p : ℕ) (allowed : Answers (put_table (tray memory) p (length bytes)) (Some p) (Ok tt)) (e : memory' ≡ written (1024 * p) bytes memory) where
   inside : p < tray_places (length memory)
-  inside = (put_clear (tray memory) p (length bytes) free).1
+  inside = (put_allowed (tray memory) p (length bytes) allowed).1
 
   size : length bytes ≡ 1024
-  size = (put_clear (tray memory) p (length bytes) free).0
+  size = (put_allowed (tray memory) p (length bytes) allowed).0
 
   fits : 1024 * p + length bytes ≤ length memory
-  fits = tray_fits memory bytes p free
+  fits = tray_fits memory bytes p allowed
 
   after : (P : List ℕ → Type 0) → P (written (1024 * p) bytes memory) → P memory'
   after P h = subst P (sym e) h
@@ -45,7 +44,7 @@ module _ (memory bytes memory' : List ℕ) (p : ℕ) (free : Clear (put_table (t
   apart q ne = ⊎_elim inl (λ l. inr (omega arith)) (cases_lt q p)
 
   pub tray_puts : Puts (tray memory) p bytes (Ok tt) (tray memory')
-  tray_puts = put_done (tray memory) p bytes (tray memory') free (record {
+  tray_puts = put_done (tray memory) p bytes (tray memory') allowed (record {
     count = ap tray_places long;
     here = after (λ m. part (1024 * p) 1024 m ≡ bytes) (part-written (1024 * p) bytes memory fits 1024 (sym size));
     elsewhere = λ q l ne. others q (apart q ne);

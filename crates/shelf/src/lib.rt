@@ -9,8 +9,6 @@ use faults::{ShelfCause, ShelfFault};
 pub trait Shelf {
     ghost meaning: { Self → Meaning };
 
-    ghost lawful: { (s : Self) → Lawful (meaning s) };
-
     // What a done put does to a shelf of this kind, entire: also to what its meaning does not show, as spare bytes of a memory.
     ghost stores: { Self → (p : ℕ) (bytes : List ℕ) → Self → Type 0 };
 
@@ -34,16 +32,10 @@ pub trait Shelf {
         ensures { Answers (get_table (meaning self.now) place room) None result }
     {
         if room != 1024 {
-            return Err(ShelfFault {
-                cause: ShelfCause::Length,
-                place: None,
-            });
+            return Err(ShelfCause::Length.into());
         }
         if place >= self.count() {
-            return Err(ShelfFault {
-                cause: ShelfCause::Outside,
-                place: None,
-            });
+            return Err(ShelfCause::Outside.into());
         }
         Ok(())
     }
@@ -66,4 +58,6 @@ pub trait Shelf {
             place: Some(place),
         })
     }
+
+    ghost lawful: { (s : Self) → Lawful (meaning s) };
 }

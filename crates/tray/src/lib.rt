@@ -1,7 +1,7 @@
 #![tactic(auto)]
 
 ghost use Rattle.std.specs.Prelude.{◌≡◌};
-ghost use Rattle.shelf.specs.Trays.{tray, tray_places, TrayStores};
+ghost use Rattle.shelf.specs.Trays.{tray, TrayStores};
 ghost use Rattle.shelf.proofs.Trays.{tray_lawful};
 
 use faults::ShelfFault;
@@ -22,13 +22,6 @@ impl<'a> Tray<'a> {
     }
 }
 
-// How many places a memory of this size has.
-fn places_in(size: usize) -> u32
-    ensures { result ≡ tray_places size }
-{
-    (size / 1024).min(4096) as u32
-}
-
 impl Shelf for Tray<'_> {
     ghost meaning = { λ t. tray t.memory.now };
 
@@ -37,11 +30,11 @@ impl Shelf for Tray<'_> {
     ghost stores = { λ s p bytes t. TrayStores s.memory.now p bytes t.memory.now × (t.memory.ghost_name ≡ s.memory.ghost_name) };
 
     fn count(&self) -> u32 {
-        places_in(self.memory.len())
+        (self.memory.len() / 1024).min(4096) as u32
     }
 
     fn is_open(&self, place: u32) -> bool {
-        place < places_in(self.memory.len())
+        place < self.count()
     }
 
     fn get(&self, place: u32, buffer: &mut [u8]) -> Result<(), ShelfFault> {

@@ -1,33 +1,23 @@
-use Rattle.std.proofs.Common.{◌≡◌, ◌+◌, length, get_or, vec_items, vec_len, sym, refl, ap, ◌∙◌, subst, arith, below_more}
-use Rattle.std.proofs.lemmas.Result.{err_from_is_err_and}
+use Rattle.std.proofs.Common.{get_or, vec_items, sym, refl, ap, ◌∙◌, below_more, arith}
+use Rattle.std.proofs.lemmas.Grind.{common_steps}
 use Rattle.hexadecimal.specs.Hex.{Digits}
+use Rattle.hexadecimal.proofs.Pairs.{pair_at}
 use Rattle.hexadecimal.proofs.decode.Goals as goal
+use Rattle.hexadecimal.proofs.decode.Goals.{in_default-2-via-in-Some+in_default, in_default-2-via-in_default}
 
-pub loop-i-preserved : goal.loop-i-preserved
-loop-i-preserved c =
-    let i = c.loop-i.i in
-    let l : vec_len c.loop-i.bytes ≡ i = c.loop-i.invariant.0 in
-    let p = c.in_ok-push.ensures.by_index in
-    let text = c.as_bytes-digits.result.now in
-    let now' = vec_items c.push.new.self in (
-      c.in_ok-push.ensures.len ∙ ap (λ n. n + 1) l,
-      below_more (λ k. Digits text k (get_or now' k 0)) i
-          (λ k h. let d = c.loop-i.invariant.1 k h in (d.0, d.1, p.0 k 0 (omega (arith, l, h)) ∙ d.2)) (
-            omega (arith, c.value-high.ensures, c.if-high-gt15.false),
-            omega (arith, c.value-low.ensures, c.if-low-gt15.false),
-            ap (λ n. get_or now' n 0) (sym l) ∙ p.1 0 refl ∙ omega (arith, c.value-high.ensures, c.value-low.ensures),
-          ),
+pub loop-high-preserved : goal.loop-high-preserved
+loop-high-preserved c =
+    let pushed = vec_items c.push.new.self in (
+      grind (arith, common_steps),
+      below_more (λ k. Digits c.args.text.now k (get_or pushed k 0)) c.loop-high.high-index
+          (λ k h. let d = c.loop-high.invariant.1 k h in (d.0, d.1, c.in_ok-push.ensures.by_index.0 k 0 (grind (arith, common_steps)) ∙ d.2))
+          (grind (arith, pair_at), grind (arith, pair_at), ap (λ n. get_or pushed n 0) (sym c.loop-high.invariant.0) ∙ c.in_ok-push.ensures.by_index.1 0 refl ∙ grind (arith, pair_at)),
     )
 
-pub returns : goal.returns
-returns c =
-    let v = c.loop-i.bytes in
-    let l : length (vec_items v) ≡ c.loop-i.i = sym v.ok.0 ∙ c.loop-i.invariant.0 in
-    let e = c.as_bytes-digits.ensures.value in
-    record {
-      pairs = omega (arith, l, ap length e);
-      digits = λ k h. subst (λ t. Digits t k (get_or (vec_items v) k 0)) e (c.loop-i.invariant.1 k (omega (arith, l)));
-    }
-
-pub returns-in_err-push : goal.returns-in_err-push
-returns-in_err-push c = let p = err_from_is_err_and c.from_residual.result c.from_residual.ensures.1 in rw p.1 tt
+pub returns-in_default-2 : goal.returns-in_default-2
+returns-in_default-2 c = λ bytes s.
+    let digit = s.digits c.loop-high.high-index (omega (arith, s.pairs, c.as_chunks.ensures.front_len, c.as_bytes.ensures.len, c.loop-high-test.true)) in
+    elim c.in_default-2.branch [
+      | in_default-2-via-in-Some+in_default w ↦ w.in_default-2.ensures' (grind (arith, pair_at, digit))
+      | in_default-2-via-in_default w ↦ (rw w.in_default-2.is-0 at c.value.ensures) (grind (arith, pair_at, digit))
+    ]

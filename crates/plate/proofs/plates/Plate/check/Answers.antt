@@ -3,14 +3,14 @@ use Rattle.shelf.specs.Plates.{cells}
 use Rattle.shelf.proofs.Cells.{no_gap}
 use Rattle.plate.proofs.plates.Plate.check.Goals as goal
 
-pub returns : goal.returns
-returns c =
+pub returns-in-1-to-4096 : goal.returns-in-1-to-4096
+returns-in-1-to-4096 c =
     let memory = c.args.memory.now in (
       λ unfit. absurd (unfit (record {
         some = omega arith;
         few = omega arith;
-        marks = c.if-not-marks_fit.ensures;
-        order = no_gap memory (cells memory) c.if-has_gap.ensures;
+        marks = c.if-marks_fit.ensures;
+        order = no_gap memory (cells memory) c.if-not-has_gap.ensures;
       })),
       λ fit. refl,
     )
