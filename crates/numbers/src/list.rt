@@ -1,12 +1,51 @@
-ghost use Rattle.std.specs.Prelude.{◌≡◌, ◌≤◌, length};
+ghost use Rattle.std.specs.Prelude.{◌≡◌, ◌<◌, ◌≤◌, [], ◌∷◌, ◌++◌, length, MatchBool, nat_le};
+ghost use Rattle.logs.specs.States.{count, without};
+ghost use Rattle.numbers.specs.Listed.{listed};
 
-mod calls;
+use arrayvec::ArrayVec;
 
-// The numbers out of a box, oldest first: the first `len` items.
+// The numbers out of a box, oldest first.
 #[derive(Drop)]
 pub struct NumbersOut {
-    items: [u64; 16],
-    len: usize,
-    ghost few: { len ≤ 16 },
-    ghost long: { length items ≡ 16 },
+    items: ArrayVec<u64, 16>,
+}
+
+impl NumbersOut {
+    pub fn new() -> NumbersOut
+        ensures { listed result ≡ [] }
+    {
+        NumbersOut {
+            items: ArrayVec::new(),
+        }
+    }
+
+    // Whether sixteen numbers are out.
+    pub fn is_full(&self) -> bool
+        ensures { result ≡ nat_le 16 (length (listed self.now)) }
+    {
+        self.items.is_full()
+    }
+
+    pub fn has(&self, number: u64) -> bool
+        ensures { MatchBool result (0 < count number (listed self.now)) (count number (listed self.now) ≡ 0) }
+    {
+        self.items.contains(&number)
+    }
+
+    // Adds a number at the end; a full list stays as it was.
+    pub fn add(&mut self, number: u64)
+        ensures room { length (listed self.old) < 16 → listed self.new ≡ listed self.old ++ (number ∷ []) }
+        ensures full { 16 ≤ length (listed self.old) → self.new ≡ self.old }
+    {
+        let _ = self.items.try_push(number);
+    }
+
+    // Takes a number out, where it is listed.
+    pub fn take_out(&mut self, number: u64)
+        ensures { listed self.new ≡ without number (listed self.old) }
+    {
+        if let Some(i) = self.items.iter().position(|n| *n == number) {
+            self.items.remove(i);
+        }
+    }
 }

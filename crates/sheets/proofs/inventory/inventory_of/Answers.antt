@@ -13,7 +13,7 @@ loop-place-init g c = subst (Inventory (g.S.Shelf.meaning c.args.shelf.now) 0) (
 pub loop-place-preserved : goal.loop-place-preserved
 loop-place-preserved g c =
     let m = g.S.Shelf.meaning c.args.shelf.now in
-    let lawful = g.S.Shelf.lawful c.args.shelf.now in
+    let lawful = g.met.S.Shelf.lawful c.args.shelf.now in
     let p = c.loop-place.place in
     let inside : p < m.count = omega (arith, c.count-place-end.ensures, c.loop-place-test.true) in
     let b : c.get.new.buffer ≡ m.bytes p = got m p (zeros 1024) c.get.new.buffer c.get.result (length-replicate {A = ℕ} 1024 0) inside c.get.ensures in
