@@ -11,7 +11,8 @@ use Rattle.saturnin.proofs.Numbers.{four}
 use Rattle.saturnin_cube.specs.Nibbles.{nibble_at, nibbles}
 use Rattle.saturnin_cube.specs.Parts.{moved_by, source_of}
 use Rattle.saturnin_cube.specs.declared.moves.Move.{Move}
-use Rattle.saturnin_cube.specs.declared.moves.Move.TheVariants.{Slices, SlicesBack, Sheets, SheetsBack, Rotation}
+use Rattle.saturnin_cube.specs.declared.moves.Move.TheVariants.{There, Back, Rotation}
+use Rattle.saturnin_cube.specs.declared.moves.Shift.TheVariants.{Slices, Sheets}
 use Rattle.saturnin_cube.specs.declared.shape.Row.{Row}
 use Rattle.saturnin_cube.specs.declared.shape.Cube.{Cube}
 
@@ -77,8 +78,8 @@ column_is F s b y x₀ x₁ x₂ x₃ h l e₀ e₁ e₂ e₃ =
 
 pub moved_is : (m : Move) (s : List ℕ) → moved_by m s ≡ cube (λ i. at s (source_of m i))
 unfolding SR_slice SR_slice⁻¹ SR_sheet SR_sheet⁻¹ rotated
-moved_is Slices s = refl
-moved_is SlicesBack s = refl
-moved_is Sheets s = refl
-moved_is SheetsBack s = refl
+moved_is (There Slices) s = refl
+moved_is (Back Slices) s = refl
+moved_is (There Sheets) s = refl
+moved_is (Back Sheets) s = refl
 moved_is Rotation s = refl

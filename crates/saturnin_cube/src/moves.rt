@@ -4,18 +4,24 @@ ghost use Rattle.saturnin_cube.specs.Parts.{moved_by, source_of};
 ghost use Rattle.saturnin.proofs.Tables.{length-table};
 ghost use Rattle.saturnin.specs.Layers.{SR_slice, SR_slice⁻¹, SR_sheet, SR_sheet⁻¹};
 ghost use Rattle.saturnin.specs.Rounds.{rotated};
-ghost use Rattle.saturnin_cube.specs.declared.moves.Move.TheVariants.{Slices, SlicesBack, Sheets, SheetsBack, Rotation};
+ghost use Rattle.saturnin_cube.specs.declared.moves.Move.TheVariants.{There, Back, Rotation};
+ghost use Rattle.saturnin_cube.specs.declared.moves.Shift.TheVariants.{Slices, Sheets};
 
 use crate::rows::{Rows, cube_of};
 use crate::shape::{Cube, Row};
 
-// The moves of nibbles: the shifts in slices and in sheets, their inverses, and the rotation of the key.
+// The shifts of nibbles.
+#[derive(Clone, Copy)]
+pub(crate) enum Shift {
+    Slices,
+    Sheets,
+}
+
+// The moves of nibbles: a shift, the way back from it, and the rotation of the key.
 #[derive(Clone, Copy)]
 pub(crate) enum Move {
-    Slices,
-    SlicesBack,
-    Sheets,
-    SheetsBack,
+    There(Shift),
+    Back(Shift),
     Rotation,
 }
 
@@ -29,10 +35,10 @@ impl Move {
         let x = b % 4;
         let z = b / 4;
         match self {
-            Move::Slices => (x + 4 - y) % 4 + 4 * z,
-            Move::SlicesBack => (x + y) % 4 + 4 * z,
-            Move::Sheets => x + 4 * ((z + 4 - y) % 4),
-            Move::SheetsBack => x + 4 * ((z + y) % 4),
+            Move::There(Shift::Slices) => (x + 4 - y) % 4 + 4 * z,
+            Move::Back(Shift::Slices) => (x + y) % 4 + 4 * z,
+            Move::There(Shift::Sheets) => x + 4 * ((z + 4 - y) % 4),
+            Move::Back(Shift::Sheets) => x + 4 * ((z + y) % 4),
             Move::Rotation => (b + 5) % 16,
         }
     }
@@ -49,10 +55,10 @@ impl Rows for Moved {
     ghost whole = { λ s. moved_by s.by (nibbles s.of) };
 
     ghost size = { λ s. elim s.by as (λ by. length (moved_by by (nibbles s.of)) ≡ 64) [
-      | Slices ↦ unfold SR_slice in length-table 64 _
-      | SlicesBack ↦ unfold SR_slice⁻¹ in length-table 64 _
-      | Sheets ↦ unfold SR_sheet in length-table 64 _
-      | SheetsBack ↦ unfold SR_sheet⁻¹ in length-table 64 _
+      | There Slices ↦ unfold SR_slice in length-table 64 _
+      | Back Slices ↦ unfold SR_slice⁻¹ in length-table 64 _
+      | There Sheets ↦ unfold SR_sheet in length-table 64 _
+      | Back Sheets ↦ unfold SR_sheet⁻¹ in length-table 64 _
       | Rotation ↦ unfold rotated in length-table 64 _
     ] };
 

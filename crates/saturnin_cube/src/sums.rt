@@ -8,6 +8,7 @@ ghost use Rattle.saturnin.specs.Rounds;
 use crate::bits::{bit, xor};
 use crate::rows::{Rows, cube_of};
 use crate::shape::{Cube, Row};
+use saturnin::RoundConstants;
 
 // The sum of two cubes.
 #[derive(Clone, Copy)]
@@ -38,27 +39,26 @@ impl Rows for Sum {
 // The cube of two round constants.
 #[derive(Clone, Copy)]
 struct Constants {
-    c0: u16,
-    c1: u16,
+    of: RoundConstants,
 }
 
 impl Rows for Constants {
-    ghost whole = { λ s. constants_of s.c0 s.c1 };
+    ghost whole = { λ s. constants_of s.of.rc0 s.of.rc1 };
 
     ghost size = { unfold Rounds.constants in λ s. length-table 64 _ };
 
     fn row(&self, b: usize) -> Row {
         Row {
-            nibbles: [bit(self.c0, b), 0, bit(self.c1, b), 0],
+            nibbles: [bit(self.of.rc0, b), 0, bit(self.of.rc1, b), 0],
         }
     }
 }
 
 impl Cube {
-    pub(crate) fn constants(c0: u16, c1: u16) -> Cube
-        ensures { nibbles result ≡ constants_of c0 c1 }
+    pub(crate) fn constants(c: RoundConstants) -> Cube
+        ensures { nibbles result ≡ constants_of c.rc0 c.rc1 }
     {
-        cube_of(&Constants { c0, c1 })
+        cube_of(&Constants { of: c })
     }
 
     pub(crate) fn plus(self, key: Cube) -> Cube
