@@ -1,3 +1,4 @@
-mod Nibbles
 mod Loads
+mod Made
+mod Nibbles
 mod Steps

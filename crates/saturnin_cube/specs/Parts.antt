@@ -1,5 +1,5 @@
 -- Steps of the cipher with a parameter in place of what differs between them.
-use Rattle.std.specs.Prelude.{ℕ, ◌+◌, ◌*◌, ◌/◌, ◌%◌, cond, List, ◌==◌}
+use Rattle.std.specs.Prelude.{ℕ, ◌+◌, ◌*◌, ◌/◌, ◌%◌, List}
 use Rattle.saturnin.specs.Bits.{bit, nibble}
 use Rattle.saturnin.specs.Cube.{Cube, cube, at}
 use Rattle.saturnin.specs.Layers.{slice_from, slice_to, sheet_from, sheet_to, SR_slice, SR_slice⁻¹, SR_sheet, SR_sheet⁻¹}
@@ -8,10 +8,6 @@ use Rattle.saturnin_cube.specs.declared.moves.Move.{Move}
 use Rattle.saturnin_cube.specs.declared.moves.Move.TheVariants.{There, Back, Rotation}
 use Rattle.saturnin_cube.specs.declared.moves.Shift.{Shift}
 use Rattle.saturnin_cube.specs.declared.moves.Shift.TheVariants.{Slices, Sheets}
-
--- one S-box at even indices, another at odd ones
-unfoldable pub substituted : (even odd : List ℕ) → Cube → Cube
-substituted even odd s = cube (λ i. cond (i % 2 == 0) (at even (at s i)) (at odd (at s i)))
 
 -- a shift, and the way back from it
 abbrev pub there : Shift → Cube → Cube

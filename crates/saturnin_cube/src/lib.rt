@@ -1,10 +1,10 @@
 #![tactic(auto)]
 
-mod bits;
 mod boxes;
 mod bytes;
 mod columns;
 mod moves;
+mod nibble;
 mod rounds;
 mod rows;
 mod shape;

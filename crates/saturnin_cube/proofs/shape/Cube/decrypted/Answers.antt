@@ -1,4 +1,4 @@
-use Rattle.std.proofs.Common.{◌≡◌, ℕ, ◌+◌, ◌-◌, ◌*◌, refl, ap, ◌∙◌, arith}
+use Rattle.std.proofs.Common.{◌≡◌, ℕ, ◌+◌, ◌-◌, ◌*◌, ap, ◌∙◌, arith}
 use Rattle.saturnin.specs.Layers.{add}
 use Rattle.saturnin.specs.Back.{rounds⁻¹}
 use Rattle.saturnin.proofs.TwoRounds.{slices, sheets}

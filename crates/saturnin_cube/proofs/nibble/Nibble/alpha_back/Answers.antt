@@ -1,0 +1,6 @@
+use Rattle.saturnin.specs.Back.{α⁻¹}
+use Rattle.saturnin_cube.proofs.nibble.Nibble.alpha_back.Goals as goal
+
+pub returns : goal.returns
+unfolding α⁻¹
+returns c = cc
