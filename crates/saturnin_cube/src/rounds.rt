@@ -57,12 +57,11 @@ impl Cube {
         let rotated = key.moved(Move::Rotation);
         let schedule = Schedule::new(by);
         let mut s = self;
-        for i in (0..by.r as usize).rev() {
-            let c = schedule.rounds[i];
+        for (i, c) in schedule.rounds[..by.r as usize].iter().enumerate().rev() {
             s = if i % 2 == 0 {
-                s.super_round_back(Shift::Slices, rotated, c)
+                s.super_round_back(Shift::Slices, rotated, *c)
             } else {
-                s.super_round_back(Shift::Sheets, key, c)
+                s.super_round_back(Shift::Sheets, key, *c)
             };
         }
         s.plus(key)

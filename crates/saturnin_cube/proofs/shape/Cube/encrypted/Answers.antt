@@ -1,9 +1,8 @@
-use Rattle.std.proofs.Common.{◌≡◌, ◌<◌, refl, ap, ◌∙◌, arith, length-take}
-use Rattle.std.proofs.lemmas.List.{get_or-take}
+use Rattle.std.proofs.Common.{◌≡◌, refl, ap, ◌∙◌, arith, length-take}
 use Rattle.saturnin.specs.Rounds.{rounds}
 use Rattle.saturnin.proofs.TwoRounds.{slices, sheets}
 use Rattle.saturnin_cube.specs.Nibbles.{nibbles}
-use Rattle.saturnin_cube.proofs.Steps.{step}
+use Rattle.saturnin_cube.proofs.Steps.{in_turn, step}
 use Rattle.saturnin_cube.proofs.shape.Cube.encrypted.Goals as goal
 use Rattle.saturnin_cube.proofs.shape.Cube.encrypted.Goals.{then-i-eq0, else-i-eq0}
 
@@ -17,16 +16,10 @@ loop-i-preserved c =
     let k = nibbles c.args.key in
     let D = c.args.by.d in
     let R = c.args.by.r in
-    let cs = c.new-schedule.result.rounds in
-    let e = c.new-schedule.ensures in
-    let within : i < R = omega (arith, length-take R cs, c.loop-i-test.true) in
+    let of = in_turn D R c.new-schedule.result.rounds _ c.new-schedule.ensures.rc0 c.new-schedule.ensures.rc1 i _ c.loop-i-test.true in
     elim c.if-i-eq0.branch [
-      | then-i-eq0 w ↦
-          ap nibbles w.s-is ∙ w.super_round-s.ensures
-          ∙ rw (get_or-take, c.moved-rotated.ensures, c.loop-i.invariant) (step k D R cs e.rc0 e.rc1 i (omega (arith, within)) _ (slices k D R i w.if-i-eq0.true) _)
-      | else-i-eq0 w ↦
-          ap nibbles w.s-is ∙ w.super_round-s-else-i-eq0.ensures
-          ∙ rw (get_or-take, c.loop-i.invariant) (step k D R cs e.rc0 e.rc1 i (omega (arith, within)) _ (sheets k D R i (omega arith)) _)
+      | then-i-eq0 w ↦ ap nibbles w.s-is ∙ w.super_round-s.ensures ∙ rw (c.moved-rotated.ensures, c.loop-i.invariant) (step D R k i _ of (slices k D R i w.if-i-eq0.true) _)
+      | else-i-eq0 w ↦ ap nibbles w.s-is ∙ w.super_round-s-else-i-eq0.ensures ∙ rw c.loop-i.invariant (step D R k i _ of (sheets k D R i (omega arith)) _)
     ]
 
 pub returns : goal.returns

@@ -5,4 +5,4 @@ use Rattle.saturnin_cube.proofs.shape.Cube.s_boxes.Goals as goal
 
 pub returns : goal.returns
 unfolding S σ₀ σ₁
-returns c = boxes σ₀ σ₁ _ _ (λ b r h y l. let called = c.map.ensures.items.at b r r h in search rules)
+returns c = boxes σ₀ σ₁ c.args.self _ (λ b r h y l. let called = c.map.ensures.items.at b r r h in search rules)
