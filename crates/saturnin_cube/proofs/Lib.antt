@@ -1,3 +1,4 @@
+mod Flags
 mod Loads
 mod Made
 mod Nibbles

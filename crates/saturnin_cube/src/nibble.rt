@@ -1,4 +1,5 @@
 ghost use Rattle.std.specs.Prelude.{◌≡◌, ◌<◌, bit_xor};
+ghost use Rattle.std.specs.Int.{from_bool};
 ghost use Rattle.saturnin.specs.Bits.{bit as bit_of, nibble as nibble_of};
 ghost use Rattle.saturnin.specs.Layers.{α};
 ghost use Rattle.saturnin.specs.Back.{α⁻¹};
@@ -6,13 +7,11 @@ ghost use Rattle.saturnin.specs.Back.{α⁻¹};
 use std::ops::BitXor;
 
 // Bit k of x.
-#[tactic(auto, unfolding(saturnin::specs::Bits::bit))]
-pub(crate) fn bit(x: u16, k: usize) -> u8
+pub(crate) fn bit(x: u16, k: usize) -> bool
     requires { k < 16 }
-    ensures is { result ≡ bit_of x k }
-    ensures small { result < 2 }
+    ensures { from_bool result ≡ bit_of x k }
 {
-    ((x >> k) % 2) as u8
+    (x >> k) % 2 == 1
 }
 
 // A number of four bits.
@@ -24,19 +23,17 @@ pub(crate) struct Nibble {
 
 impl Nibble {
     #[tactic(auto, unfolding(saturnin::specs::Bits::nibble))]
-    pub(crate) fn of_bits(x0: u8, x1: u8, x2: u8, x3: u8) -> Nibble
-        requires { (x0 < 2) × (x1 < 2) × (x2 < 2) × (x3 < 2) }
-        ensures { result.value ≡ nibble_of x0 x1 x2 x3 }
+    pub(crate) fn of_bits(x0: bool, x1: bool, x2: bool, x3: bool) -> Nibble
+        ensures { result.value ≡ nibble_of (from_bool x0) (from_bool x1) (from_bool x2) (from_bool x3) }
     {
         Nibble {
-            value: x0 + 2 * x1 + 4 * x2 + 8 * x3,
+            value: x0 as u8 + 2 * x1 as u8 + 4 * x2 as u8 + 8 * x3 as u8,
         }
     }
 
-    pub(crate) fn bit(self, k: usize) -> u8
+    pub(crate) fn bit(self, k: usize) -> bool
         requires { k < 16 }
-        ensures is { result ≡ bit_of self.value k }
-        ensures small { result < 2 }
+        ensures { from_bool result ≡ bit_of self.value k }
     {
         bit(self.value as u16, k)
     }
@@ -52,6 +49,15 @@ impl Nibble {
         ensures { result.value ≡ α⁻¹ self.value }
     {
         Nibble::of_bits(self.bit(3) ^ self.bit(0), self.bit(0), self.bit(1), self.bit(2))
+    }
+}
+
+// A bit alone.
+impl From<bool> for Nibble {
+    ghost from_gives = { λ x r. r.value ≡ from_bool x };
+
+    fn from(bit: bool) -> Nibble {
+        Nibble { value: bit as u8 }
     }
 }
 

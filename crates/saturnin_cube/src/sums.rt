@@ -5,7 +5,7 @@ ghost use Rattle.saturnin.specs.Layers.{add};
 ghost use Rattle.saturnin.specs.Rounds.{constants as constants_of};
 ghost use Rattle.saturnin_cube.specs.Nibbles.{nibble_of, nibbles};
 
-use crate::nibble::{Nibble, bit};
+use crate::nibble::bit;
 use crate::shape::{Cube, Row};
 use saturnin::RoundConstants;
 use std::array;
@@ -24,11 +24,8 @@ impl Row {
         requires { b < 16 }
         ensures { (y : ℕ) → y < 4 → nibble_of result y ≡ at (bit_of c.rc0 b ∷ 0 ∷ bit_of c.rc1 b ∷ 0 ∷ []) y }
     {
-        let zero = Nibble { value: 0 };
-        let x = Nibble { value: bit(c.rc0, b) };
-        let z = Nibble { value: bit(c.rc1, b) };
         Row {
-            nibbles: [x, zero, z, zero],
+            nibbles: [bit(c.rc0, b).into(), false.into(), bit(c.rc1, b).into(), false.into()],
         }
     }
 }
