@@ -15,10 +15,10 @@ loop-i-init c =
     let cs = c.new-schedule.result.rounds in
     let all = iter_rest (enumerate_source (rev_source c.into_iter-i-iterator.result)) in
     let e : all ≡ take R cs = search rules in
-    let whole : length all ≡ R = search rules in record {
+    record {
       counted = search rules;
       in_turn = subst (InTurn D R) (sym e) (in_turn D R cs R c.new-schedule.ensures.rc0 c.new-schedule.ensures.rc1);
-      so_far = ap (λ n. rounds⁻¹ (nibbles c.args.key) D R (2 * n) (nibbles c.args.self)) whole;
+      so_far = search rules;
     }
 
 pub loop-i-preserved-then-i-eq0 : goal.loop-i-preserved-then-i-eq0

@@ -21,8 +21,3 @@ loop-i-preserved c =
       | then-i-eq0 w ↦ ap nibbles w.s-is ∙ w.super_round-s.ensures ∙ rw (c.moved-rotated.ensures, c.loop-i.invariant) (step D R k i _ of (slices k D R i w.if-i-eq0.true) _)
       | else-i-eq0 w ↦ ap nibbles w.s-is ∙ w.super_round-s-else-i-eq0.ensures ∙ rw c.loop-i.invariant (step D R k i _ of (sheets k D R i (omega arith)) _)
     ]
-
-pub returns : goal.returns
-returns c =
-    let e : c.loop-i.i ≡ c.args.by.r = omega (arith, length-take c.args.by.r c.new-schedule.result.rounds, c.loop-i-test.false) in
-    cc
