@@ -1,3 +1,5 @@
-mod Nibbles
+mod Flags
 mod Loads
+mod Made
+mod Nibbles
 mod Steps

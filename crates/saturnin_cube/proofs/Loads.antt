@@ -1,11 +1,11 @@
 -- Blocks to cubes and back.
-use Rattle.std.proofs.Common.{◌≡◌, ℕ, ◌+◌, ◌*◌, ◌/◌, ◌%◌, ◌^◌, ◌<◌, ◌≤◌, ◌≢◌, List, [], ◌∷◌, length, set, sym, ◌∙◌, ap₂, mul_comm, pow-suc, add-one, arith, length-set, get_or-set_other, get_or-set_same, pow_mono, shl_exact, below_more}
-use Rattle.std.proofs.lemmas.List.{ext_get_or}
+use Rattle.std.proofs.Common.{◌≡◌, ℕ, zero, suc, ◌+◌, ◌*◌, ◌/◌, ◌%◌, ◌^◌, ◌<◌, ◌≤◌, List, [], ◌∷◌, ◌∙◌, mul_comm, pow-suc, add-one, arith, pow_mono, shl_exact}
+use Rattle.std.specs.Int.{to_le_bytes, w16}
 use Rattle.saturnin.specs.Bits.{bit, number}
 use Rattle.saturnin.specs.Cube.{at, table, register, to_cube, cube_register, from_cube}
+use Rattle.saturnin.proofs.Bits.{bit_lt}
 use Rattle.saturnin.proofs.Tables.{at_table, same_table}
-use Rattle.saturnin.proofs.Numbers.{weighed_lt}
-use Rattle.saturnin.proofs.Conversions.{from-cube-length}
+use Rattle.saturnin.proofs.Numbers.{weighed_lt, number_lt}
 use Rattle.saturnin_cube.specs.Parts.{nibble_in, unpacked}
 
 -- the cube of the registers of 32 bytes
@@ -31,30 +31,13 @@ bit_more f b x v h g k m =
     let most : 2 ^ (b + 1) ≤ 2 ^ 16 = pow_mono {j = 16} (omega arith) in
     (rw (shifted, add-one b, g.0, k), rw shifted below, rw shifted (omega arith))
 
--- the bytes of register g
-module _ (s : List ℕ) (g : ℕ) (h : g < 16) where
-  pub low_byte : cube_register s g % 256 ≡ at (from_cube s) (2 * g)
-  unfolding from_cube
-  low_byte = sym (at_table 32 _ (2 * g) (omega arith)
-      ∙ ap₂ (λ q y. at (cube_register s q % 256 ∷ cube_register s q / 256 ∷ []) y) (let e : 2 * g / 2 ≡ g = omega arith in e) (let e : 2 * g % 2 ≡ 0 = omega arith in e))
+-- the bytes of registers
+byte : (r y : ℕ) → r < 2 ^ 16 → y < 2 → at (to_le_bytes w16 r) y ≡ at (r % 256 ∷ r / 256 ∷ []) y
+byte r zero h l = omega arith
+byte r (suc zero) h l = omega arith
+byte r (suc (suc y)) h l = absurd (omega arith)
 
-  pub high_byte : cube_register s g / 256 ≡ at (from_cube s) (2 * g + 1)
-  unfolding from_cube
-  high_byte = sym (at_table 32 _ (2 * g + 1) (omega arith)
-      ∙ ap₂ (λ q y. at (cube_register s q % 256 ∷ cube_register s q / 256 ∷ []) y) (let e : (2 * g + 1) / 2 ≡ g = omega arith in e) (let e : (2 * g + 1) % 2 ≡ 1 = omega arith in e))
-
--- two bytes more of a block
-pub bytes_more : (t out : List ℕ) (g low high : ℕ) → 2 * g + 1 < length out → low ≡ at t (2 * g) → high ≡ at t (2 * g + 1)
-    → ((m : ℕ) → m < 2 * g → at out m ≡ at t m) → (m : ℕ) → m < 2 * (g + 1) → at (set (set out (2 * g) low) (2 * g + 1) high) m ≡ at t m
-bytes_more t out g low high h e f inv m l =
-    let lt₀ : 2 * g < length out = omega arith in
-    let lt₁ : 2 * g + 1 < length (set out (2 * g) low) = simp length-set h in
-    below_more (λ m. at (set (set out (2 * g) low) (2 * g + 1) high) m ≡ at t m) (2 * g + 1)
-    (λ k j. let ne : k ≢ 2 * g + 1 = omega arith in rw get_or-set_other
-    (below_more (λ m. at (set out (2 * g) low) m ≡ at t m) (2 * g)
-    (λ k j. let ne : k ≢ 2 * g = omega arith in rw get_or-set_other (inv k j))
-    (rw get_or-set_same e) k j))
-    (rw get_or-set_same f) m (omega arith)
-
-pub stored : (s out : List ℕ) → length out ≡ 32 → ((m : ℕ) → m < 32 → at out m ≡ at (from_cube s) m) → out ≡ from_cube s
-stored s out e f = ext_get_or 0 out (from_cube s) (e ∙ sym (from-cube-length s)) (λ i h. f i (omega arith))
+pub stored : (s registers : List ℕ) → registers ≡ table 16 (cube_register s) → table 32 (λ m. at (to_le_bytes w16 (at registers (m / 2))) (m % 2)) ≡ from_cube s
+unfolding from_cube cube_register
+stored s registers e = same_table 32 _ _ (λ m h.
+    rw (e, at_table 16 (cube_register s) (m / 2) (omega arith)) (byte (cube_register s (m / 2)) (m % 2) (number_lt _ 16 (λ b. bit_lt _ _)) (omega arith)))

@@ -1,84 +1,82 @@
 -- Cubes that are held in rows.
-use Rattle.std.specs.Prelude.{◌≡◌, ℕ, zero, suc, ◌+◌, ◌*◌, ◌/◌, ◌%◌, ◌<◌, List, [], ◌∷◌, length, ◌≢◌, slice_index_or, slice_set, refl}
-use Rattle.std.proofs.Common.{sym, ap, ap₂, subst, ◌∙◌, inl, inr, arith, add-zero}
-use Rattle.std.proofs.lemmas.Bool.{cases_eq}
-use Rattle.std.proofs.lemmas.List.{ext_get_or}
+use Rattle.std.specs.Prelude.{◌≡◌, ℕ, zero, suc, ◌+◌, ◌*◌, ◌/◌, ◌%◌, ◌<◌, cond, ◌==◌, List, [], ◌∷◌, length, refl}
+use Rattle.std.proofs.Common.{sym, ap, ap₂, get_or, ◌∙◌, add-zero, arith, lit<}
+use Rattle.std.proofs.lemmas.List.{get_or-map}
 use Rattle.saturnin.specs.Cube.{at, cube}
 use Rattle.saturnin.specs.Layers.{SR_slice, SR_slice⁻¹, SR_sheet, SR_sheet⁻¹}
 use Rattle.saturnin.specs.Rounds.{rotated}
-use Rattle.saturnin.proofs.Tables.{at_table, length-table}
-use Rattle.saturnin.proofs.Numbers.{four}
-use Rattle.saturnin_cube.specs.Nibbles.{nibble_at, nibbles}
+use Rattle.saturnin.proofs.Tables.{at_table, same_table}
+use Rattle.saturnin_cube.specs.Nibbles.{nibble_of, nibble_at, nibbles}
 use Rattle.saturnin_cube.specs.Parts.{moved_by, source_of}
 use Rattle.saturnin_cube.specs.declared.moves.Move.{Move}
-use Rattle.saturnin_cube.specs.declared.moves.Move.TheVariants.{Slices, SlicesBack, Sheets, SheetsBack, Rotation}
+use Rattle.saturnin_cube.specs.declared.moves.Move.TheVariants.{There, Back, Rotation}
+use Rattle.saturnin_cube.specs.declared.moves.Shift.TheVariants.{Slices, Sheets}
+use Rattle.saturnin_cube.specs.declared.nibble.Nibble.{Nibble}
 use Rattle.saturnin_cube.specs.declared.shape.Row.{Row}
 use Rattle.saturnin_cube.specs.declared.shape.Cube.{Cube}
 
-set_same : (rs : List Row) (b : ℕ) (r : Row) (y : ℕ) → b < length rs → nibble_at (slice_set rs b r) b y ≡ at r.nibbles y
-set_same [] b r y h = absurd (omega arith)
-set_same (q ∷ rs) zero r y h = refl
-set_same (q ∷ rs) (suc b) r y h = set_same rs b r y (omega arith)
-
-set_other : (rs : List Row) (b : ℕ) (r : Row) (k y : ℕ) → (k ≢ b) → nibble_at (slice_set rs b r) k y ≡ nibble_at rs k y
-set_other [] b r k y h = refl
-set_other (q ∷ rs) zero r zero y h = absurd (h refl)
-set_other (q ∷ rs) zero r (suc k) y h = refl
-set_other (q ∷ rs) (suc b) r zero y h = refl
-set_other (q ∷ rs) (suc b) r (suc k) y h = set_other rs b r k y (λ e. h (ap suc e))
-
--- the rows below n are those of the cube s
-abbrev pub Filled : (s : List ℕ) (rs : List Row) (n : ℕ) → Type 0
-Filled s rs n = (b y : ℕ) → b < n → y < 4 → nibble_at rs b y ≡ at s (4 * b + y)
-
-pub filled_more : (s : List ℕ) (rs : List Row) (n : ℕ) (r : Row) → n < length rs → Filled s rs n
-    → ((y : ℕ) → y < 4 → at r.nibbles y ≡ at s (4 * n + y)) → Filled s (slice_set rs n r) (n + 1)
-filled_more s rs n r l inv new b y h m =
-    elim (cases_eq b n) [
-      | inl e ↦ subst (λ (v : ℕ). nibble_at (slice_set rs n r) v y ≡ at s (4 * v + y)) (sym e) (set_same rs n r y l ∙ new y m)
-      | inr ne ↦ set_other rs n r b y ne ∙ inv b y (omega (arith, ne)) m
-    ]
-
-pub filled : (s : List ℕ) (c : Cube) → length s ≡ 64 → Filled s c.rows 16 → nibbles c ≡ s
-unfolding nibbles
-filled s c e f =
-    ext_get_or 0 (cube (λ i. nibble_at c.rows (i / 4) (i % 4))) s (length-table 64 _ ∙ sym e) (λ i h.
-    let l : i < 64 = omega (arith, length-table 64 (λ i. nibble_at c.rows (i / 4) (i % 4))) in
-    at_table 64 _ i l ∙ f (i / 4) (i % 4) (omega arith) (omega arith) ∙ ap (at s) (let q : 4 * (i / 4) + i % 4 ≡ i = omega arith in q))
-
--- a nibble of a cube that is made by index, or by row and y
-pub at_index : (f : ℕ → ℕ) (b y : ℕ) → b < 16 → y < 4 → f (4 * b + y) ≡ at (cube f) (4 * b + y)
-at_index f b y h l = sym (at_table 64 f (4 * b + y) (omega arith))
-
-pub at_row : (f : ℕ → ℕ → ℕ) (b y : ℕ) → b < 16 → y < 4 → f b y ≡ at (cube (λ i. f (i / 4) (i % 4))) (4 * b + y)
-at_row f b y h l =
-    ap₂ f (let q : b ≡ (4 * b + y) / 4 = omega arith in q) (let q : y ≡ (4 * b + y) % 4 = omega arith in q) ∙ at_index (λ i. f (i / 4) (i % 4)) b y h l
-
-nibble_read : (rs : List Row) (b y : ℕ) (d : Row) → b < length rs → at (slice_index_or rs b d).nibbles y ≡ nibble_at rs b y
+nibble_read : (rs : List Row) (b y : ℕ) (d : Row) → b < length rs → nibble_at rs b y ≡ nibble_of (get_or rs b d) y
 nibble_read [] b y d h = absurd (omega arith)
-nibble_read (q ∷ rs) zero y d h = refl
-nibble_read (q ∷ rs) (suc b) y d h = nibble_read rs b y d (omega arith)
+nibble_read (r ∷ rs) zero y d h = refl
+nibble_read (r ∷ rs) (suc b) y d h = nibble_read rs b y d (omega arith)
 
-pub read : (c : Cube) (b y : ℕ) (d : Row) → b < 16 → y < 4 → at (slice_index_or c.rows b d).nibbles y ≡ at (nibbles c) (4 * b + y)
+-- a nibble of a cube that is made by row and y
+pub at_row : (f : ℕ → ℕ → ℕ) (b y : ℕ) → b < 16 → y < 4 → at (cube (λ i. f (i / 4) (i % 4))) (4 * b + y) ≡ f b y
+at_row f b y h l =
+    at_table 64 (λ i. f (i / 4) (i % 4)) (4 * b + y) (omega arith)
+    ∙ ap₂ f (let q : (4 * b + y) / 4 ≡ b = omega arith in q) (let q : (4 * b + y) % 4 ≡ y = omega arith in q)
+
+-- nibble y of a row as code reads it, and of row b
+pub nibble_is : (r : Row) (y : ℕ) (n : Nibble) → y < 4 → (get_or r.nibbles y n).value ≡ nibble_of r y
+nibble_is r y n l = sym (get_or-map (λ (n : Nibble). n.value) r.nibbles y n 0 (omega (arith, r.whole)))
+
+pub row_is : (c : Cube) (b : ℕ) (r : Row) → b < 16 → (y : ℕ) → y < 4 → nibble_of (get_or c.rows b r) y ≡ at (nibbles c) (4 * b + y)
 unfolding nibbles
-read c b y d h l = nibble_read c.rows b y d (omega (arith, c.whole)) ∙ at_row (nibble_at c.rows) b y h l
+row_is c b r h y l = sym (nibble_read c.rows b y r (omega (arith, c.whole))) ∙ sym (at_row (nibble_at c.rows) b y h l)
 
--- four nibbles are a row of the cube s
-pub row_is : (s : List ℕ) (b x₀ x₁ x₂ x₃ : ℕ) → x₀ ≡ at s (4 * b + 0) → x₁ ≡ at s (4 * b + 1) → x₂ ≡ at s (4 * b + 2) → x₃ ≡ at s (4 * b + 3)
-    → (y : ℕ) → y < 4 → at (x₀ ∷ x₁ ∷ x₂ ∷ x₃ ∷ []) y ≡ at s (4 * b + y)
-row_is s b x₀ x₁ x₂ x₃ = four (λ y. at (x₀ ∷ x₁ ∷ x₂ ∷ x₃ ∷ []) y ≡ at s (4 * b + y))
+-- a row for where a list has none
+abbrev pub no_nibble : Nibble
+no_nibble = record { value = 0; small = lit< tt }
 
--- a row of a cube with a function on every column
-pub column_is : (F : ℕ → ℕ → ℕ → ℕ → ℕ → ℕ) (s : List ℕ) (b y x₀ x₁ x₂ x₃ : ℕ) → b < 16 → y < 4
-    → x₀ ≡ at s (4 * b + 0) → x₁ ≡ at s (4 * b + 1) → x₂ ≡ at s (4 * b + 2) → x₃ ≡ at s (4 * b + 3)
-    → F y x₀ x₁ x₂ x₃ ≡ at (cube (λ i. F (i % 4) (at s (4 * (i / 4))) (at s (4 * (i / 4) + 1)) (at s (4 * (i / 4) + 2)) (at s (4 * (i / 4) + 3)))) (4 * b + y)
-column_is F s b y x₀ x₁ x₂ x₃ h l e₀ e₁ e₂ e₃ =
-    rw (e₀, e₁, e₂, e₃, add-zero) (at_row (λ b y. F y (at s (4 * b)) (at s (4 * b + 1)) (at s (4 * b + 2)) (at s (4 * b + 3))) b y h l)
+none : Row
+none = record { nibbles = no_nibble ∷ no_nibble ∷ no_nibble ∷ no_nibble ∷ []; whole = refl }
+
+-- a cube by its rows
+pub is_rows : (c : Cube) (f : ℕ → ℕ → ℕ) → ((b : ℕ) (r : Row) → b < 16 → (y : ℕ) → y < 4 → nibble_of (get_or c.rows b r) y ≡ f b y) → nibbles c ≡ cube (λ i. f (i / 4) (i % 4))
+unfolding nibbles
+is_rows c f each = same_table 64 _ (λ i. f (i / 4) (i % 4)) (λ i h.
+    nibble_read c.rows (i / 4) (i % 4) none (omega (arith, c.whole)) ∙ each (i / 4) none (omega arith) (i % 4) (omega arith))
+
+-- or by the indices in them
+pub is_cube : (c : Cube) (f : ℕ → ℕ) → ((b : ℕ) (r : Row) → b < 16 → (y : ℕ) → y < 4 → nibble_of (get_or c.rows b r) y ≡ f (4 * b + y)) → nibbles c ≡ cube f
+is_cube c f each =
+    is_rows c (λ b y. f (4 * b + y)) each ∙ same_table 64 _ f (λ i h. ap f (let q : 4 * (i / 4) + i % 4 ≡ i = omega arith in q))
+
+-- a cube by a function on the columns
+pub columns : (F : ℕ → ℕ → ℕ → ℕ → ℕ → ℕ) (c d : Cube)
+    → ((b : ℕ) (r : Row) → b < 16 → (y : ℕ) → y < 4 → let q : Row = get_or c.rows b r in nibble_of (get_or d.rows b r) y ≡ F y (nibble_of q 0) (nibble_of q 1) (nibble_of q 2) (nibble_of q 3))
+    → nibbles d ≡ cube (λ i. let p : ℕ = 4 * (i / 4) in F (i % 4) (at (nibbles c) p) (at (nibbles c) (p + 1)) (at (nibbles c) (p + 2)) (at (nibbles c) (p + 3)))
+columns F c d each = is_rows d (λ b y. F y (at (nibbles c) (4 * b)) (at (nibbles c) (4 * b + 1)) (at (nibbles c) (4 * b + 2)) (at (nibbles c) (4 * b + 3))) (λ b r h y l.
+    let e₀ : nibble_of (get_or c.rows b r) 0 ≡ at (nibbles c) (4 * b) = row_is c b r h 0 (lit< tt) ∙ ap (at (nibbles c)) (add-zero (4 * b)) in
+    each b r h y l ∙ rw (e₀, row_is c b r h 1 (lit< tt), row_is c b r h 2 (lit< tt), row_is c b r h 3 (lit< tt)))
+
+-- a nibble that is taken out of a row
+pub taken : (r : Row) (y : ℕ) {n : Nibble} → n ≡ get_or r.nibbles y n → y < 4 → n.value ≡ nibble_of r y
+taken r y {n} e l = ap (λ (n : Nibble). n.value) e ∙ nibble_is r y n l
 
 pub moved_is : (m : Move) (s : List ℕ) → moved_by m s ≡ cube (λ i. at s (source_of m i))
 unfolding SR_slice SR_slice⁻¹ SR_sheet SR_sheet⁻¹ rotated
-moved_is Slices s = refl
-moved_is SlicesBack s = refl
-moved_is Sheets s = refl
-moved_is SheetsBack s = refl
+moved_is (There Slices) s = refl
+moved_is (Back Slices) s = refl
+moved_is (There Sheets) s = refl
+moved_is (Back Sheets) s = refl
 moved_is Rotation s = refl
+
+-- a cube with one function at even y and another at odd y
+pub boxes : (even odd : ℕ → ℕ) (c d : Cube)
+    → ((b : ℕ) (r : Row) → b < 16 → (y : ℕ) → y < 4
+    → let n : ℕ = nibble_of (get_or c.rows b r) y in nibble_of (get_or d.rows b r) y ≡ cond (y % 2 == 0) (even n) (odd n))
+    → nibbles d ≡ cube (λ i. cond (i % 2 == 0) (even (at (nibbles c) i)) (odd (at (nibbles c) i)))
+boxes even odd c d each = is_cube d _ (λ b r h y l.
+    each b r h y l
+    ∙ ap₂ (λ m n. cond (m == 0) (even n) (odd n)) (let q : y % 2 ≡ (4 * b + y) % 2 = omega arith in q) (row_is c b r h y l))

@@ -1,82 +1,40 @@
-ghost use Rattle.std.specs.Prelude.{◌≡◌, ◌<◌};
-ghost use Rattle.saturnin.specs.Layers.{α, MC};
-ghost use Rattle.saturnin.specs.Back.{α⁻¹, MC⁻¹};
-ghost use Rattle.saturnin_cube.specs.Nibbles.{nibbles};
-ghost use Rattle.saturnin.proofs.Tables.{length-table};
+ghost use Rattle.std.specs.Prelude.{◌≡◌, ℕ, ◌<◌};
+ghost use Rattle.saturnin.specs.Layers.{M_row, MC};
+ghost use Rattle.saturnin.specs.Back.{M⁻¹_row, MC⁻¹};
+ghost use Rattle.saturnin_cube.specs.Nibbles.{nibble_of, nibbles};
 
-use crate::bits::{bit, nibble, xor};
-use crate::rows::{Rows, cube_of};
 use crate::shape::{Cube, Row};
 
-// The bits x0, x1, x2, x3 become x1, x2, x3, x0 + x1.
-fn alpha(v: u8) -> u8
-    ensures is { result ≡ α v }
-    ensures small { result < 16 }
-{
-    let v = v as u16;
-    nibble(bit(v, 1), bit(v, 2), bit(v, 3), bit(v, 0) ^ bit(v, 1))
-}
-
-fn alpha_back(v: u8) -> u8
-    ensures is { result ≡ α⁻¹ v }
-    ensures small { result < 16 }
-{
-    let v = v as u16;
-    nibble(bit(v, 3) ^ bit(v, 0), bit(v, 0), bit(v, 1), bit(v, 2))
-}
-
-// M on every row, as a network of sums and alphas.
-#[derive(Clone, Copy)]
-struct Mixed {
-    of: Cube,
-}
-
-impl Rows for Mixed {
-    ghost whole = { λ s. MC (nibbles s.of) };
-
-    ghost size = { unfold MC in λ s. length-table 64 _ };
-
-    fn row(&self, b: usize) -> Row {
-        let q = self.of.rows[b];
-        let [a, b, c, d] = q.nibbles;
-        let a = xor(a, b);
-        let c = xor(c, d);
-        let b = xor(alpha(b), c);
-        let d = xor(alpha(d), a);
-        let a = xor(alpha(alpha(a)), b);
-        let c = xor(alpha(alpha(c)), d);
-        let b = xor(b, c);
-        let d = xor(d, a);
+impl Row {
+    // M, as a network of sums and alphas.
+    fn mixed(self) -> Row
+        ensures { (y : ℕ) → y < 4 → nibble_of result y ≡ M_row y (nibble_of self 0) (nibble_of self 1) (nibble_of self 2) (nibble_of self 3) }
+    {
+        let [a, b, c, d] = self.nibbles;
+        let a = a ^ b;
+        let c = c ^ d;
+        let b = b.alpha() ^ c;
+        let d = d.alpha() ^ a;
+        let a = a.alpha().alpha() ^ b;
+        let c = c.alpha().alpha() ^ d;
         Row {
-            nibbles: [a, b, c, d],
+            nibbles: [a, b ^ c, c, d ^ a],
         }
     }
-}
 
-// The same network from its end to its start.
-#[derive(Clone, Copy)]
-struct Unmixed {
-    of: Cube,
-}
-
-impl Rows for Unmixed {
-    ghost whole = { λ s. MC⁻¹ (nibbles s.of) };
-
-    ghost size = { unfold MC⁻¹ in λ s. length-table 64 _ };
-
-    fn row(&self, b: usize) -> Row {
-        let q = self.of.rows[b];
-        let [a, b, c, d] = q.nibbles;
-        let d = xor(d, a);
-        let b = xor(b, c);
-        let a = alpha_back(alpha_back(xor(a, b)));
-        let c = alpha_back(alpha_back(xor(c, d)));
-        let d = alpha_back(xor(d, a));
-        let b = alpha_back(xor(b, c));
-        let a = xor(a, b);
-        let c = xor(c, d);
+    // The same network from its end to its start.
+    fn mixed_back(self) -> Row
+        ensures { (y : ℕ) → y < 4 → nibble_of result y ≡ M⁻¹_row y (nibble_of self 0) (nibble_of self 1) (nibble_of self 2) (nibble_of self 3) }
+    {
+        let [a, b, c, d] = self.nibbles;
+        let d = d ^ a;
+        let b = b ^ c;
+        let a = (a ^ b).alpha_back().alpha_back();
+        let c = (c ^ d).alpha_back().alpha_back();
+        let d = (d ^ a).alpha_back();
+        let b = (b ^ c).alpha_back();
         Row {
-            nibbles: [a, b, c, d],
+            nibbles: [a ^ b, b, c ^ d, d],
         }
     }
 }
@@ -85,12 +43,16 @@ impl Cube {
     pub(crate) fn mixed(self) -> Cube
         ensures { nibbles result ≡ MC (nibbles self) }
     {
-        cube_of(&Mixed { of: self })
+        Cube {
+            rows: self.rows.map(Row::mixed),
+        }
     }
 
     pub(crate) fn mixed_back(self) -> Cube
         ensures { nibbles result ≡ MC⁻¹ (nibbles self) }
     {
-        cube_of(&Unmixed { of: self })
+        Cube {
+            rows: self.rows.map(Row::mixed_back),
+        }
     }
 }

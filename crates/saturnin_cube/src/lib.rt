@@ -1,11 +1,10 @@
 #![tactic(auto)]
 
-mod bits;
-mod blocks;
 mod boxes;
 mod bytes;
 mod columns;
 mod moves;
+mod nibble;
 mod rounds;
 mod rows;
 mod shape;
@@ -15,7 +14,8 @@ ghost use Rattle.saturnin.specs.Rounds.{forward};
 ghost use Rattle.saturnin.specs.Back.{back};
 ghost use Rattle.saturnin.proofs.Laws.{forward-gives_blocks, forward-two_way};
 
-use saturnin::{Cipher, Separator, SuperRounds, TwoWayCipher};
+use crate::shape::Cube;
+use saturnin::{Cipher, Parameters, TwoWayCipher};
 
 // The block cipher Saturnin on a cube of nibbles: the form that follows its definition step by step.
 #[derive(Clone, Copy)]
@@ -26,14 +26,8 @@ impl Cipher for CubeForm {
 
     ghost gives_blocks = { λ c. forward-gives_blocks };
 
-    fn encrypt_block(
-        &self,
-        key: &[u8; 32],
-        d: Separator,
-        r: SuperRounds,
-        block: &[u8; 32],
-    ) -> [u8; 32] {
-        blocks::encrypted(key, d, r, block)
+    fn encrypt_block(&self, key: &[u8; 32], by: Parameters, block: &[u8; 32]) -> [u8; 32] {
+        Cube::load(block).encrypted(Cube::load(key), by).store()
     }
 }
 
@@ -42,13 +36,7 @@ impl TwoWayCipher for CubeForm {
 
     ghost two_way = { λ c. forward-two_way };
 
-    fn decrypt_block(
-        &self,
-        key: &[u8; 32],
-        d: Separator,
-        r: SuperRounds,
-        block: &[u8; 32],
-    ) -> [u8; 32] {
-        blocks::decrypted(key, d, r, block)
+    fn decrypt_block(&self, key: &[u8; 32], by: Parameters, block: &[u8; 32]) -> [u8; 32] {
+        Cube::load(block).decrypted(Cube::load(key), by).store()
     }
 }

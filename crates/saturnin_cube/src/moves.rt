@@ -1,21 +1,23 @@
-ghost use Rattle.std.specs.Prelude.{◌≡◌, ◌+◌, ◌*◌, ◌<◌, length};
-ghost use Rattle.saturnin_cube.specs.Nibbles.{nibbles};
+ghost use Rattle.std.specs.Prelude.{◌≡◌, ℕ, ◌+◌, ◌*◌, ◌<◌};
+ghost use Rattle.saturnin.specs.Cube.{at};
+ghost use Rattle.saturnin_cube.specs.Nibbles.{nibble_of, nibbles};
 ghost use Rattle.saturnin_cube.specs.Parts.{moved_by, source_of};
-ghost use Rattle.saturnin.proofs.Tables.{length-table};
-ghost use Rattle.saturnin.specs.Layers.{SR_slice, SR_slice⁻¹, SR_sheet, SR_sheet⁻¹};
-ghost use Rattle.saturnin.specs.Rounds.{rotated};
-ghost use Rattle.saturnin_cube.specs.declared.moves.Move.TheVariants.{Slices, SlicesBack, Sheets, SheetsBack, Rotation};
 
-use crate::rows::{Rows, cube_of};
 use crate::shape::{Cube, Row};
+use std::array;
 
-// The moves of nibbles: the shifts in slices and in sheets, their inverses, and the rotation of the key.
+// The shifts of nibbles.
+#[derive(Clone, Copy)]
+pub(crate) enum Shift {
+    Slices,
+    Sheets,
+}
+
+// The moves of nibbles: a shift, the way back from it, and the rotation of the key.
 #[derive(Clone, Copy)]
 pub(crate) enum Move {
-    Slices,
-    SlicesBack,
-    Sheets,
-    SheetsBack,
+    There(Shift),
+    Back(Shift),
     Rotation,
 }
 
@@ -29,49 +31,31 @@ impl Move {
         let x = b % 4;
         let z = b / 4;
         match self {
-            Move::Slices => (x + 4 - y) % 4 + 4 * z,
-            Move::SlicesBack => (x + y) % 4 + 4 * z,
-            Move::Sheets => x + 4 * ((z + 4 - y) % 4),
-            Move::SheetsBack => x + 4 * ((z + y) % 4),
+            Move::There(Shift::Slices) => (x + 4 - y) % 4 + 4 * z,
+            Move::Back(Shift::Slices) => (x + y) % 4 + 4 * z,
+            Move::There(Shift::Sheets) => x + 4 * ((z + 4 - y) % 4),
+            Move::Back(Shift::Sheets) => x + 4 * ((z + y) % 4),
             Move::Rotation => (b + 5) % 16,
         }
     }
 }
 
-// A cube whose nibbles are moved.
-#[derive(Clone, Copy)]
-struct Moved {
-    of: Cube,
-    by: Move,
-}
-
-impl Rows for Moved {
-    ghost whole = { λ s. moved_by s.by (nibbles s.of) };
-
-    ghost size = { λ s. elim s.by as (λ by. length (moved_by by (nibbles s.of)) ≡ 64) [
-      | Slices ↦ unfold SR_slice in length-table 64 _
-      | SlicesBack ↦ unfold SR_slice⁻¹ in length-table 64 _
-      | Sheets ↦ unfold SR_sheet in length-table 64 _
-      | SheetsBack ↦ unfold SR_sheet⁻¹ in length-table 64 _
-      | Rotation ↦ unfold rotated in length-table 64 _
-    ] };
-
-    fn row(&self, b: usize) -> Row {
+impl Cube {
+    // Row b after a move.
+    fn moved_row(self, by: Move, b: usize) -> Row
+        requires { b < 16 }
+        ensures { (y : ℕ) → y < 4 → nibble_of result y ≡ at (nibbles self) (source_of by (4 * b + y)) }
+    {
         Row {
-            nibbles: [
-                self.of.rows[self.by.source(b, 0)].nibbles[0],
-                self.of.rows[self.by.source(b, 1)].nibbles[1],
-                self.of.rows[self.by.source(b, 2)].nibbles[2],
-                self.of.rows[self.by.source(b, 3)].nibbles[3],
-            ],
+            nibbles: array::from_fn(|y| self.row(by.source(b, y)).nibble(y)),
         }
     }
-}
 
-impl Cube {
     pub(crate) fn moved(self, by: Move) -> Cube
         ensures { nibbles result ≡ moved_by by (nibbles self) }
     {
-        cube_of(&Moved { of: self, by })
+        Cube {
+            rows: array::from_fn(|b| self.moved_row(by, b)),
+        }
     }
 }

@@ -2,87 +2,66 @@ ghost use Rattle.std.specs.Prelude.{◌≡◌, ◌*◌};
 ghost use Rattle.saturnin.specs.Layers.{add};
 ghost use Rattle.saturnin.specs.Rounds.{constants, rounds};
 ghost use Rattle.saturnin.specs.Back.{rounds⁻¹};
-ghost use Rattle.saturnin.specs.TwoRounds.{slice_round, slice_round⁻¹, sheet_round, sheet_round⁻¹};
+ghost use Rattle.saturnin.specs.TwoRounds.{super_round as super_round_of, super_round⁻¹};
 ghost use Rattle.saturnin_cube.specs.Nibbles.{nibbles};
+ghost use Rattle.saturnin_cube.specs.Parts.{there, back};
 
-use crate::moves::Move;
+use crate::moves::{Move, Shift};
 use crate::shape::Cube;
-use saturnin::{Schedule, Separator, SuperRounds};
+use saturnin::{Parameters, RoundConstants, Schedule};
 
 impl Cube {
-    fn plus_subkey(self, key: Cube, c0: u16, c1: u16) -> Cube
-        ensures { nibbles result ≡ add (nibbles key) (add (constants c0 c1) (nibbles self)) }
+    fn plus_subkey(self, key: Cube, c: RoundConstants) -> Cube
+        ensures { nibbles result ≡ add (nibbles key) (add (constants c.rc0 c.rc1) (nibbles self)) }
     {
-        self.plus(Cube::constants(c0, c1)).plus(key)
+        self.plus(Cube::constants(c)).plus(key)
     }
 
-    // A super-round with the shift in slices.
-    fn slice_round(self, key: Cube, c0: u16, c1: u16) -> Cube
-        ensures { nibbles result ≡ slice_round (nibbles key) c0 c1 (nibbles self) }
+    fn super_round(self, shift: Shift, key: Cube, c: RoundConstants) -> Cube
+        ensures { nibbles result ≡ super_round_of (there shift) (back shift) (nibbles key) c.rc0 c.rc1 (nibbles self) }
     {
         let s = self.s_boxes().mixed().s_boxes();
-        let s = s.moved(Move::Slices).mixed().moved(Move::SlicesBack);
-        s.plus_subkey(key, c0, c1)
+        let s = s.moved(Move::There(shift)).mixed().moved(Move::Back(shift));
+        s.plus_subkey(key, c)
     }
 
-    fn slice_round_back(self, key: Cube, c0: u16, c1: u16) -> Cube
-        ensures { nibbles result ≡ slice_round⁻¹ (nibbles key) c0 c1 (nibbles self) }
+    fn super_round_back(self, shift: Shift, key: Cube, c: RoundConstants) -> Cube
+        ensures { nibbles result ≡ super_round⁻¹ (there shift) (back shift) (nibbles key) c.rc0 c.rc1 (nibbles self) }
     {
-        let s = self.plus_subkey(key, c0, c1);
-        let s = s.moved(Move::Slices).mixed_back().moved(Move::SlicesBack);
-        s.s_boxes_back().mixed_back().s_boxes_back()
-    }
-
-    // A super-round with the shift in sheets.
-    fn sheet_round(self, key: Cube, c0: u16, c1: u16) -> Cube
-        ensures { nibbles result ≡ sheet_round (nibbles key) c0 c1 (nibbles self) }
-    {
-        let s = self.s_boxes().mixed().s_boxes();
-        let s = s.moved(Move::Sheets).mixed().moved(Move::SheetsBack);
-        s.plus_subkey(key, c0, c1)
-    }
-
-    fn sheet_round_back(self, key: Cube, c0: u16, c1: u16) -> Cube
-        ensures { nibbles result ≡ sheet_round⁻¹ (nibbles key) c0 c1 (nibbles self) }
-    {
-        let s = self.plus_subkey(key, c0, c1);
-        let s = s.moved(Move::Sheets).mixed_back().moved(Move::SheetsBack);
+        let s = self.plus_subkey(key, c);
+        let s = s.moved(Move::There(shift)).mixed_back().moved(Move::Back(shift));
         s.s_boxes_back().mixed_back().s_boxes_back()
     }
 
     // The key is added, and then come r super-rounds: with the rotated key and the shift in slices at even i, with the key and
     // the shift in sheets at odd i.
-    pub(crate) fn encrypted(self, key: Cube, d: Separator, r: SuperRounds) -> Cube
-        ensures { nibbles result ≡ rounds (nibbles key) d.value r.value (2 * r.value) (add (nibbles key) (nibbles self)) }
+    pub(crate) fn encrypted(self, key: Cube, by: Parameters) -> Cube
+        ensures { nibbles result ≡ rounds (nibbles key) by.d by.r (2 * by.r) (add (nibbles key) (nibbles self)) }
     {
         let rotated = key.moved(Move::Rotation);
-        let schedule = Schedule::new(d, r);
+        let schedule = Schedule::new(by);
         let mut s = self.plus(key);
-        for i in 0..r.value as usize {
-            let c0 = schedule.rc0[i];
-            let c1 = schedule.rc1[i];
+        for (i, c) in schedule.rounds[..by.r as usize].iter().enumerate() {
             s = if i % 2 == 0 {
-                s.slice_round(rotated, c0, c1)
+                s.super_round(Shift::Slices, rotated, *c)
             } else {
-                s.sheet_round(key, c0, c1)
+                s.super_round(Shift::Sheets, key, *c)
             };
         }
         s
     }
 
-    pub(crate) fn decrypted(self, key: Cube, d: Separator, r: SuperRounds) -> Cube
-        ensures { nibbles result ≡ add (nibbles key) (rounds⁻¹ (nibbles key) d.value r.value (2 * r.value) (nibbles self)) }
+    pub(crate) fn decrypted(self, key: Cube, by: Parameters) -> Cube
+        ensures { nibbles result ≡ add (nibbles key) (rounds⁻¹ (nibbles key) by.d by.r (2 * by.r) (nibbles self)) }
     {
         let rotated = key.moved(Move::Rotation);
-        let schedule = Schedule::new(d, r);
+        let schedule = Schedule::new(by);
         let mut s = self;
-        for i in (0..r.value as usize).rev() {
-            let c0 = schedule.rc0[i];
-            let c1 = schedule.rc1[i];
+        for (i, c) in schedule.rounds[..by.r as usize].iter().enumerate().rev() {
             s = if i % 2 == 0 {
-                s.slice_round_back(rotated, c0, c1)
+                s.super_round_back(Shift::Slices, rotated, *c)
             } else {
-                s.sheet_round_back(key, c0, c1)
+                s.super_round_back(Shift::Sheets, key, *c)
             };
         }
         s.plus(key)

@@ -1,10 +1,12 @@
-ghost use Rattle.std.specs.Prelude.{◌≡◌, ℕ, ◌<◌, length, slice_index};
+ghost use Rattle.std.specs.Prelude.{◌≡◌, length};
+
+use crate::nibble::Nibble;
 
 // The four nibbles of one x and one z, by y: what the matrix M takes.
 #[derive(Clone, Copy)]
 pub(crate) struct Row {
-    pub(crate) nibbles: [u8; 4],
-    ghost small: { (y : ℕ) → slice_index nibbles y < 16 },
+    pub(crate) nibbles: [Nibble; 4],
+    ghost whole: { length nibbles ≡ 4 },
 }
 
 // Row b is that of x = b mod 4 and z = b div 4.

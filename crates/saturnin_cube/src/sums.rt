@@ -1,72 +1,49 @@
-ghost use Rattle.std.specs.Prelude.{◌≡◌};
+ghost use Rattle.std.specs.Prelude.{◌≡◌, ℕ, ◌<◌, [], ◌∷◌, bit_xor};
+ghost use Rattle.saturnin.specs.Bits.{bit as bit_of};
+ghost use Rattle.saturnin.specs.Cube.{at};
 ghost use Rattle.saturnin.specs.Layers.{add};
 ghost use Rattle.saturnin.specs.Rounds.{constants as constants_of};
-ghost use Rattle.saturnin_cube.specs.Nibbles.{nibbles};
-ghost use Rattle.saturnin.proofs.Tables.{length-table};
-ghost use Rattle.saturnin.specs.Rounds;
+ghost use Rattle.saturnin_cube.specs.Nibbles.{nibble_of, nibbles};
 
-use crate::bits::{bit, xor};
-use crate::rows::{Rows, cube_of};
+use crate::nibble::bit;
 use crate::shape::{Cube, Row};
+use saturnin::RoundConstants;
+use std::array;
 
-// The sum of two cubes.
-#[derive(Clone, Copy)]
-struct Sum {
-    left: Cube,
-    right: Cube,
-}
-
-impl Rows for Sum {
-    ghost whole = { λ s. add (nibbles s.right) (nibbles s.left) };
-
-    ghost size = { unfold add in λ s. length-table 64 _ };
-
-    fn row(&self, b: usize) -> Row {
-        let p = self.left.rows[b];
-        let q = self.right.rows[b];
+impl Row {
+    fn plus(self, other: Row) -> Row
+        ensures { (y : ℕ) → y < 4 → nibble_of result y ≡ bit_xor (nibble_of self y) (nibble_of other y) }
+    {
         Row {
-            nibbles: [
-                xor(p.nibbles[0], q.nibbles[0]),
-                xor(p.nibbles[1], q.nibbles[1]),
-                xor(p.nibbles[2], q.nibbles[2]),
-                xor(p.nibbles[3], q.nibbles[3]),
-            ],
+            nibbles: array::from_fn(|y| self.nibble(y) ^ other.nibble(y)),
         }
     }
-}
 
-// The cube of two round constants.
-#[derive(Clone, Copy)]
-struct Constants {
-    c0: u16,
-    c1: u16,
-}
-
-impl Rows for Constants {
-    ghost whole = { λ s. constants_of s.c0 s.c1 };
-
-    ghost size = { unfold Rounds.constants in λ s. length-table 64 _ };
-
-    fn row(&self, b: usize) -> Row {
+    // Row b of the cube of two round constants.
+    fn constants(c: RoundConstants, b: usize) -> Row
+        requires { b < 16 }
+        ensures { (y : ℕ) → y < 4 → nibble_of result y ≡ at (bit_of c.rc0 b ∷ 0 ∷ bit_of c.rc1 b ∷ 0 ∷ []) y }
+    {
         Row {
-            nibbles: [bit(self.c0, b), 0, bit(self.c1, b), 0],
+            nibbles: [bit(c.rc0, b).into(), false.into(), bit(c.rc1, b).into(), false.into()],
         }
     }
 }
 
 impl Cube {
-    pub(crate) fn constants(c0: u16, c1: u16) -> Cube
-        ensures { nibbles result ≡ constants_of c0 c1 }
-    {
-        cube_of(&Constants { c0, c1 })
-    }
-
     pub(crate) fn plus(self, key: Cube) -> Cube
         ensures { nibbles result ≡ add (nibbles key) (nibbles self) }
     {
-        cube_of(&Sum {
-            left: self,
-            right: key,
-        })
+        Cube {
+            rows: array::from_fn(|b| self.row(b).plus(key.row(b))),
+        }
+    }
+
+    pub(crate) fn constants(c: RoundConstants) -> Cube
+        ensures { nibbles result ≡ constants_of c.rc0 c.rc1 }
+    {
+        Cube {
+            rows: array::from_fn(|b| Row::constants(c, b)),
+        }
     }
 }

@@ -4,4 +4,4 @@ use Rattle.saturnin_cube.proofs.bytes.Registers.nibble.Goals as goal
 
 pub returns : goal.returns
 unfolding nibble_in
-returns c = record { is = rw (add-zero (4 * c.args.y)) (cc); small = c.nibble.ensures.small }
+returns c = rw (add-zero (4 * c.args.y)) (cc)

@@ -1,12 +1,7 @@
-use Rattle.std.proofs.Common.{◌≡◌, ℕ, ◌*◌}
-use Rattle.saturnin.specs.Cube.{table}
-use Rattle.saturnin.specs.Rounds.{RC₀, RC₁, rounds}
+use Rattle.std.proofs.Common.{◌≡◌, ◌*◌}
+use Rattle.saturnin.specs.Rounds.{rounds}
 use Rattle.saturnin_cube.specs.Nibbles.{nibbles}
 use Rattle.saturnin_cube.proofs.shape.Cube.encrypted.Given as goal
 
--- for the separator D that the schedule is of
 abbrev pub invariant-loop-i : goal.invariant-loop-i
-invariant-loop-i l =
-    let R : ℕ = l.initial.i-end in
-    (D : ℕ) → l.schedule.rc0 ≡ table 31 (RC₀ D R) → l.schedule.rc1 ≡ table 31 (RC₁ D R)
-    → nibbles l.s ≡ rounds (nibbles l.key) D R (2 * l.i) (nibbles l.initial.s)
+invariant-loop-i l = nibbles l.s ≡ rounds (nibbles l.key) l.fn.by.d l.fn.by.r (2 * l.i) (nibbles l.initial.s)

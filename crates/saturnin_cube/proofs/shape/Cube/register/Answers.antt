@@ -1,23 +1,24 @@
-use Rattle.std.proofs.Common.{◌≡◌, ◌+◌, ◌*◌, ◌/◌, ◌%◌, ◌^◌, ◌<◌, refl, ap, ◌∙◌, add_comm, arith}
+use Rattle.std.proofs.Common.{◌+◌, ◌*◌, ◌/◌, ◌%◌, ◌^◌, refl, ap, ◌∙◌, add_comm, arith}
+use Rattle.std.specs.Int.{from_bool}
 use Rattle.saturnin.specs.Bits.{bit, number}
 use Rattle.saturnin.specs.Cube.{at, cube_register}
 use Rattle.saturnin_cube.specs.Nibbles.{nibbles}
-use Rattle.saturnin_cube.proofs.Nibbles.{read}
+use Rattle.saturnin_cube.proofs.Flags.{flag_lt}
+use Rattle.saturnin_cube.proofs.Nibbles.{row_is}
 use Rattle.saturnin_cube.proofs.Loads.{Has_bits, bit_in, bit_more}
 use Rattle.saturnin_cube.proofs.shape.Cube.register.Goals as goal
 
-bit_is : (c : goal.After-bit) → c.bit.result ≡ bit_in (nibbles c.args.self) c.args.g c.loop-b.b
-bit_is c =
+more : (c : goal.After-bit)
+    → Has_bits (bit_in (nibbles c.args.self) c.args.g) (c.loop-b.b + 1) (c.loop-b.x + from_bool c.bit.result * 2 ^ c.loop-b.b % 2 ^ 16)
+more c =
     let s = c.args.self in
     let g = c.args.g in
     let b = c.loop-b.b in
-    let lt : b < 16 = c.loop-b-test.true in
-    c.bit.ensures.is
-    ∙ ap (λ v. bit v (g % 4)) (read s b (g / 4) c.index-self-b.result lt (omega arith) ∙ ap (at (nibbles s)) (add_comm (4 * b) (g / 4)))
-
-more : (c : goal.After-bit)
-    → Has_bits (bit_in (nibbles c.args.self) c.args.g) (c.loop-b.b + 1) (c.loop-b.x + c.bit.result * 2 ^ c.loop-b.b % 2 ^ 16)
-more c = bit_more _ c.loop-b.b c.loop-b.x c.bit.result c.loop-b-test.true c.loop-b.invariant (bit_is c) c.bit.ensures.small
+    let lt = c.loop-b-test.true in
+    bit_more _ b c.loop-b.x (from_bool c.bit.result) lt c.loop-b.invariant
+    (c.bit.ensures
+    ∙ ap (λ v. bit v (g % 4)) (c.nibble.ensures ∙ row_is s b _ lt (g / 4) (omega arith) ∙ ap (at (nibbles s)) (add_comm (4 * b) (g / 4))))
+    (flag_lt c.bit.result)
 
 pub loop-b-init : goal.loop-b-init
 unfolding number

@@ -1,19 +1,15 @@
-use Rattle.std.proofs.Common.{◌/◌, ◌%◌, ap, ◌∙◌, arith, length-set}
-use Rattle.saturnin.specs.Cube.{from_cube}
+use Rattle.std.proofs.Common.{◌≡◌, ◌/◌, ◌%◌, rules, ◌∙◌}
+use Rattle.std.specs.Int.{to_le_bytes, w16}
+use Rattle.saturnin.specs.Cube.{at, cube_register, table}
+use Rattle.saturnin.proofs.Made.{made_table}
 use Rattle.saturnin_cube.specs.Nibbles.{nibbles}
-use Rattle.saturnin_cube.proofs.Loads.{low_byte, high_byte, bytes_more, stored}
+use Rattle.saturnin_cube.proofs.Loads.{stored}
 use Rattle.saturnin_cube.proofs.shape.Cube.store.Goals as goal
 
-pub loop-g-preserved : goal.loop-g-preserved
-loop-g-preserved c =
-    let s = nibbles c.args.self in
-    let out = c.loop-g.out in
-    let g = c.loop-g.g in
-    let e = c.register-x.ensures in (
-      simp length-set c.loop-g.invariant.0,
-      bytes_more (from_cube s) out g _ _ (omega (arith, c.loop-g.invariant.0))
-          (ap (λ x. x % 256) e ∙ low_byte s g c.loop-g-test.true) (ap (λ x. x / 256) e ∙ high_byte s g c.loop-g-test.true) c.loop-g.invariant.1,
-    )
-
 pub returns : goal.returns
-returns c = stored (nibbles c.args.self) c.loop-g.out c.loop-g.invariant.0 (λ m h. c.loop-g.invariant.1 m (omega arith))
+returns c =
+    let registers = c.from_fn-registers.result in
+    let made : registers ≡ table 16 (cube_register (nibbles c.args.self)) =
+    made_table _ _ _ 16 _ (λ g x q lt called. (search rules, search rules)) c.from_fn-registers.ensures.items in
+    made_table _ _ (λ m. at (to_le_bytes w16 (at registers (m / 2))) (m % 2)) 32 _ (λ m x q lt called. (search rules, search rules)) c.from_fn.ensures.items
+    ∙ stored (nibbles c.args.self) registers made
