@@ -7,6 +7,7 @@ use Rattle.saturnin.specs.Layers.{add}
 use Rattle.saturnin.proofs.Bits.{both, both_left, both_right, below, at_below}
 use Rattle.saturnin.proofs.Tables.{at_table, same_table}
 use Rattle.saturnin_words.specs.Words.{across, quad, bit_of, cube_of}
+use Rattle.saturnin_words.specs.declared.quad.Quad.{Quad}
 use Rattle.saturnin_words.specs.declared.state.State.{State}
 
 -- the nibble at bit p of the even words (m is 0) or of the odd ones
@@ -69,10 +70,12 @@ added r k w e o =
     pick false x y k l x' y' e f = f
 
 -- moves: the bits of four words, from other places
-pub across_moves : (a b c d a' b' c' d' p s : ℕ) → bit a' p ≡ bit a s → bit b' p ≡ bit b s → bit c' p ≡ bit c s → bit d' p ≡ bit d s
-    → across a' b' c' d' p ≡ across a b c d s
+pub each_moves : (q r : Quad) (source : ℕ → ℕ)
+    → ((p : ℕ) → p < 32 → bit r.a p ≡ bit q.a (source p)) → ((p : ℕ) → p < 32 → bit r.b p ≡ bit q.b (source p))
+    → ((p : ℕ) → p < 32 → bit r.c p ≡ bit q.c (source p)) → ((p : ℕ) → p < 32 → bit r.d p ≡ bit q.d (source p))
+    → (p : ℕ) → p < 32 → quad r p ≡ quad q (source p)
 unfolding across
-across_moves a b c d a' b' c' d' p s ea eb ec ed = rw (ea, eb, ec, ed)
+each_moves q r source ea eb ec ed p h = rw (ea p h, eb p h, ec p h, ed p h)
 
 -- nibble i of the one cube is nibble `from i` of the other: a test at each of 64 places
 abbrev pub fits : (even odd from : ℕ → ℕ) → ℕ → Bool

@@ -124,15 +124,26 @@ impl Quad {
         }
     }
 
+    // One move on each of the four words.
+    pub(crate) fn each<F: Fn(u32) -> u32>(self, f: F) -> Quad
+        requires { F.IsAlwaysCallable f }
+        ensures a { F.post f self.a result.a }
+        ensures b { F.post f self.b result.b }
+        ensures c { F.post f self.c result.c }
+        ensures d { F.post f self.d result.d }
+    {
+        Quad {
+            a: f(self.a),
+            b: f(self.b),
+            c: f(self.c),
+            d: f(self.d),
+        }
+    }
+
     // Rows 0 and 2, or 1 and 3, change places.
     pub(crate) fn swapped(self) -> Quad
         ensures { (p : ℕ) → p < 32 → quad result p ≡ quad self ((p + 16) % 32) }
     {
-        Quad {
-            a: swapped_halves(self.a),
-            b: swapped_halves(self.b),
-            c: swapped_halves(self.c),
-            d: swapped_halves(self.d),
-        }
+        self.each(swapped_halves)
     }
 }

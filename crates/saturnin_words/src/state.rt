@@ -2,31 +2,20 @@ ghost use Rattle.std.specs.Prelude.{◌≡◌, ◌/◌, ◌%◌};
 ghost use Rattle.saturnin.specs.Layers.{S, SR_slice, SR_slice⁻¹, SR_sheet, SR_sheet⁻¹, MC, add};
 ghost use Rattle.saturnin.specs.Back.{S⁻¹, MC⁻¹};
 ghost use Rattle.saturnin.specs.Rounds.{constants, rotated};
-ghost use Rattle.saturnin.specs.TwoRounds.{slice_round, slice_round⁻¹, sheet_round, sheet_round⁻¹};
+ghost use Rattle.saturnin.specs.TwoRounds.{super_round, super_round⁻¹};
 ghost use Rattle.saturnin_words.specs.Words.{cube_of};
 
 use crate::moves::{
     key_turned, sheet_even, sheet_odd, sheet_odd_back, slice_even, slice_odd, slice_odd_back,
 };
 use crate::quad::Quad;
+use crate::shifts::Shift;
 
 // A state or a key: words 0 to 3, with the nibbles of even index, and words 4 to 7, with those of odd index.
 #[derive(Clone, Copy)]
 pub(crate) struct State {
     pub(crate) even: Quad,
     pub(crate) odd: Quad,
-}
-
-// One move on each of four words.
-macro_rules! each {
-    ($move:ident, $quad:expr) => {
-        Quad {
-            a: $move($quad.a),
-            b: $move($quad.b),
-            c: $move($quad.c),
-            d: $move($quad.d),
-        }
-    };
 }
 
 impl State {
@@ -75,8 +64,8 @@ impl State {
         ensures { cube_of result ≡ SR_slice (cube_of self) }
     {
         State {
-            even: each!(slice_even, self.even),
-            odd: each!(slice_odd, self.odd),
+            even: self.even.each(slice_even),
+            odd: self.odd.each(slice_odd),
         }
     }
 
@@ -84,8 +73,8 @@ impl State {
         ensures { cube_of result ≡ SR_slice⁻¹ (cube_of self) }
     {
         State {
-            even: each!(slice_even, self.even),
-            odd: each!(slice_odd_back, self.odd),
+            even: self.even.each(slice_even),
+            odd: self.odd.each(slice_odd_back),
         }
     }
 
@@ -93,8 +82,8 @@ impl State {
         ensures { cube_of result ≡ SR_sheet (cube_of self) }
     {
         State {
-            even: each!(sheet_even, self.even),
-            odd: each!(sheet_odd, self.odd),
+            even: self.even.each(sheet_even),
+            odd: self.odd.each(sheet_odd),
         }
     }
 
@@ -102,8 +91,8 @@ impl State {
         ensures { cube_of result ≡ SR_sheet⁻¹ (cube_of self) }
     {
         State {
-            even: each!(sheet_even, self.even),
-            odd: each!(sheet_odd_back, self.odd),
+            even: self.even.each(sheet_even),
+            odd: self.odd.each(sheet_odd_back),
         }
     }
 
@@ -111,8 +100,8 @@ impl State {
         ensures { cube_of result ≡ rotated (cube_of self) }
     {
         State {
-            even: each!(key_turned, self.even),
-            odd: each!(key_turned, self.odd),
+            even: self.even.each(key_turned),
+            odd: self.odd.each(key_turned),
         }
     }
 
@@ -129,48 +118,28 @@ impl State {
     pub(crate) fn with_constants(self, word: u32) -> State
         ensures { cube_of result ≡ add (constants (word % 65536) (word / 65536)) (cube_of self) }
     {
-        let q = self.even;
-        let even = Quad {
-            a: q.a ^ word,
-            b: q.b,
-            c: q.c,
-            d: q.d,
-        };
         State {
-            even,
-            odd: self.odd,
+            even: Quad {
+                a: self.even.a ^ word,
+                ..self.even
+            },
+            ..self
         }
     }
 
-    pub(crate) fn slice_round(self, key: State, word: u32) -> State
-        ensures { cube_of result ≡ slice_round (cube_of key) (word % 65536) (word / 65536) (cube_of self) }
+    pub(crate) fn super_round<T: Shift>(self, key: State, word: u32) -> State
+        ensures { cube_of result ≡ super_round T.there T.back (cube_of key) (word % 65536) (word / 65536) (cube_of self) }
     {
         let s = self.s_boxes().columns().s_boxes();
-        let s = s.slices().columns().slices_back();
+        let s = T::back(T::there(s).columns());
         s.with_constants(word).xor(key)
     }
 
-    pub(crate) fn slice_round_back(self, key: State, word: u32) -> State
-        ensures { cube_of result ≡ slice_round⁻¹ (cube_of key) (word % 65536) (word / 65536) (cube_of self) }
+    pub(crate) fn super_round_back<T: Shift>(self, key: State, word: u32) -> State
+        ensures { cube_of result ≡ super_round⁻¹ T.there T.back (cube_of key) (word % 65536) (word / 65536) (cube_of self) }
     {
         let s = self.with_constants(word).xor(key);
-        let s = s.slices().columns_back().slices_back();
-        s.s_boxes_back().columns_back().s_boxes_back()
-    }
-
-    pub(crate) fn sheet_round(self, key: State, word: u32) -> State
-        ensures { cube_of result ≡ sheet_round (cube_of key) (word % 65536) (word / 65536) (cube_of self) }
-    {
-        let s = self.s_boxes().columns().s_boxes();
-        let s = s.sheets().columns().sheets_back();
-        s.with_constants(word).xor(key)
-    }
-
-    pub(crate) fn sheet_round_back(self, key: State, word: u32) -> State
-        ensures { cube_of result ≡ sheet_round⁻¹ (cube_of key) (word % 65536) (word / 65536) (cube_of self) }
-    {
-        let s = self.with_constants(word).xor(key);
-        let s = s.sheets().columns_back().sheets_back();
+        let s = T::back(T::there(s).columns_back());
         s.s_boxes_back().columns_back().s_boxes_back()
     }
 }

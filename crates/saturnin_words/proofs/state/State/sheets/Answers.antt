@@ -1,14 +1,12 @@
-use Rattle.saturnin.specs.Layers.{SR_sheet}
-use Rattle.saturnin.specs.Layers.{sheet_from}
+use Rattle.saturnin.specs.Layers.{SR_sheet, sheet_from}
 use Rattle.saturnin_words.specs.Words.{in_word, in_sheet}
-use Rattle.saturnin_words.proofs.Places.{across_moves, moved}
+use Rattle.saturnin_words.proofs.Places.{each_moves, moved}
 use Rattle.saturnin_words.proofs.state.State.sheets.Goals as goal
 
 pub returns : goal.returns
 unfolding SR_sheet
 returns c =
-    let x = c.args.self.even in
-    let y = c.args.self.odd in
-    moved (in_word in_sheet 0 2) (in_word in_sheet 1 3) (sheet_from) tt _ c.args.self
-    (λ p h. across_moves x.a x.b x.c x.d _ _ _ _ p (in_word in_sheet 0 2 p) (c.sheet_even.ensures p h) (c.sheet_even-2.ensures p h) (c.sheet_even-3.ensures p h) (c.sheet_even-4.ensures p h))
-    (λ p h. across_moves y.a y.b y.c y.d _ _ _ _ p (in_word in_sheet 1 3 p) (c.sheet_odd.ensures p h) (c.sheet_odd-2.ensures p h) (c.sheet_odd-3.ensures p h) (c.sheet_odd-4.ensures p h))
+    let e = c.each.ensures in
+    let o = c.each-2.ensures in
+    moved (in_word in_sheet 0 2) (in_word in_sheet 1 3) sheet_from tt _ c.args.self
+    (each_moves _ _ (in_word in_sheet 0 2) e.a e.b e.c e.d) (each_moves _ _ (in_word in_sheet 1 3) o.a o.b o.c o.d)
