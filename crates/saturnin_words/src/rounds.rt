@@ -40,7 +40,7 @@ fn with_constants<F: FnOnce(Constants<'_>) -> State>(of: Parameters, f: F) -> St
 fn encrypted_by(constants: Constants, key: State, block: State) -> State
     ensures { let by = constants.entry.of in cube_of result ≡ rounds (cube_of key) by.d by.r (2 * by.r) (add (cube_of key) (cube_of block)) }
 {
-    let turned_key = key.turned();
+    let turned_key = key.rotated();
     let (pairs, rest) = constants.words.as_chunks::<2>();
     let mut s = block.xor(key);
     for [slice, sheet] in pairs {
@@ -56,7 +56,7 @@ fn encrypted_by(constants: Constants, key: State, block: State) -> State
 fn decrypted_by(constants: Constants, key: State, block: State) -> State
     ensures { let by = constants.entry.of in cube_of result ≡ add (cube_of key) (rounds⁻¹ (cube_of key) by.d by.r (2 * by.r) (cube_of block)) }
 {
-    let turned_key = key.turned();
+    let turned_key = key.rotated();
     let (pairs, rest) = constants.words.as_chunks::<2>();
     let mut s = match rest.first() {
         Some(last) => block.super_round_back::<Slices>(turned_key, *last),

@@ -26,11 +26,11 @@ impl Shift for Slices {
     ghost back = { SR_slice⁻¹ };
 
     fn there(s: State) -> State {
-        s.slices()
+        s.turned::<4, 0, 1, 2, 3>()
     }
 
     fn back(s: State) -> State {
-        s.slices_back()
+        s.turned::<4, 0, 3, 2, 1>()
     }
 }
 
@@ -42,10 +42,10 @@ impl Shift for Sheets {
     ghost back = { SR_sheet⁻¹ };
 
     fn there(s: State) -> State {
-        s.sheets()
+        s.turned::<16, 0, 4, 8, 12>()
     }
 
     fn back(s: State) -> State {
-        s.sheets_back()
+        s.turned::<16, 0, 12, 8, 4>()
     }
 }

@@ -1,13 +1,12 @@
-ghost use Rattle.std.specs.Prelude.{◌≡◌, ◌/◌, ◌%◌};
-ghost use Rattle.saturnin.specs.Layers.{S, SR_slice, SR_slice⁻¹, SR_sheet, SR_sheet⁻¹, MC, add};
+ghost use Rattle.std.specs.Prelude.{◌≡◌, ◌/◌, ◌%◌, ◌≤◌, ◌⊎◌, [], ◌∷◌};
+ghost use Rattle.saturnin.specs.Cube.{at, cube};
+ghost use Rattle.saturnin.specs.Layers.{S, MC, add};
 ghost use Rattle.saturnin.specs.Back.{S⁻¹, MC⁻¹};
 ghost use Rattle.saturnin.specs.Rounds.{constants, rotated};
 ghost use Rattle.saturnin.specs.TwoRounds.{super_round, super_round⁻¹};
-ghost use Rattle.saturnin_words.specs.Words.{cube_of};
+ghost use Rattle.saturnin_words.specs.Words.{cube_of, in_cube};
 
-use crate::moves::{
-    key_turned, sheet_even, sheet_odd, sheet_odd_back, slice_even, slice_odd, slice_odd_back,
-};
+use crate::moves::turned;
 use crate::quad::Quad;
 use crate::shifts::Shift;
 
@@ -60,49 +59,31 @@ impl State {
         }
     }
 
-    pub(crate) fn slices(self) -> State
-        ensures { cube_of result ≡ SR_slice (cube_of self) }
+    // Row y turns Yy places up, in groups of WIDTH bits.
+    pub(crate) fn turned<
+        const WIDTH: u32,
+        const Y0: u32,
+        const Y1: u32,
+        const Y2: u32,
+        const Y3: u32,
+    >(self) -> State
+        requires width { (WIDTH ≡ 4) ⊎ (WIDTH ≡ 16) }
+        requires y0 { Y0 ≤ WIDTH }
+        requires y1 { Y1 ≤ WIDTH }
+        requires y2 { Y2 ≤ WIDTH }
+        requires y3 { Y3 ≤ WIDTH }
+        ensures { cube_of result ≡ cube (λ i. at (cube_of self) (in_cube WIDTH (at (Y0 ∷ Y1 ∷ Y2 ∷ Y3 ∷ [])) i)) }
     {
         State {
-            even: self.even.each(slice_even),
-            odd: self.odd.each(slice_odd),
+            even: self.even.each(turned::<WIDTH, Y0, Y2>),
+            odd: self.odd.each(turned::<WIDTH, Y1, Y3>),
         }
     }
 
-    pub(crate) fn slices_back(self) -> State
-        ensures { cube_of result ≡ SR_slice⁻¹ (cube_of self) }
-    {
-        State {
-            even: self.even.each(slice_even),
-            odd: self.odd.each(slice_odd_back),
-        }
-    }
-
-    pub(crate) fn sheets(self) -> State
-        ensures { cube_of result ≡ SR_sheet (cube_of self) }
-    {
-        State {
-            even: self.even.each(sheet_even),
-            odd: self.odd.each(sheet_odd),
-        }
-    }
-
-    pub(crate) fn sheets_back(self) -> State
-        ensures { cube_of result ≡ SR_sheet⁻¹ (cube_of self) }
-    {
-        State {
-            even: self.even.each(sheet_even),
-            odd: self.odd.each(sheet_odd_back),
-        }
-    }
-
-    pub(crate) fn turned(self) -> State
+    pub(crate) fn rotated(self) -> State
         ensures { cube_of result ≡ rotated (cube_of self) }
     {
-        State {
-            even: self.even.each(key_turned),
-            odd: self.odd.each(key_turned),
-        }
+        self.turned::<16, 11, 11, 11, 11>()
     }
 
     pub(crate) fn xor(self, key: State) -> State

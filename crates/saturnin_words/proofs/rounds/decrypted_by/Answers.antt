@@ -34,7 +34,7 @@ loop-slice-preserved c =
     record {
       pairs = without_last _ _ _ _ e all;
       fit = omega (arith, c.loop-slice.invariant.fit);
-      undone = return K D R _ k.scheduled (2 * i) (omega arith) (slices K D R (2 * i) (omega arith)) _ _ (in_last _ _ _ _ e all 0 _ (omega arith) (omega arith)) c.turned-turned_key.ensures _ _
+      undone = return K D R _ k.scheduled (2 * i) (omega arith) (slices K D R (2 * i) (omega arith)) _ _ (in_last _ _ _ _ e all 0 _ (omega arith) (omega arith)) c.rotated-turned_key.ensures _ _
           c.super_round_back-s-in-loop-slice-2.ensures
           ∙ return K D R _ k.scheduled (2 * i + 1) l (sheets K D R (2 * i + 1) (omega arith)) _ _ (in_last _ _ _ _ e all 1 _ (omega arith) (omega arith)) refl _ _
           c.super_round_back-s-in-loop-slice.ensures
@@ -57,7 +57,7 @@ returns c =
           let l = w.in-Some.ensures.item in
           ap (λ s. rounds⁻¹ K D R (2 * (2 * (R / 2))) (cube_of s)) w.s-is
           ∙ return K D R _ k.scheduled (2 * (R / 2)) (omega (arith, f.back_len, k.scheduled.whole, l.3.0)) (slices K D R (2 * (R / 2)) (omega arith)) _ _ (l.4 (omega arith) 0 ∙ left_over _ _ f.back (2 * (R / 2)) (omega (arith, k.scheduled.whole)))
-          c.turned-turned_key.ensures _ _ w.super_round_back-s.ensures
+          c.rotated-turned_key.ensures _ _ w.super_round_back-s.ensures
           ∙ ap (λ n. rounds⁻¹ K D R n (cube_of c.args.block)) (let q : 2 * (2 * (R / 2) + 1) ≡ 2 * R = omega (arith, f.back_len, k.scheduled.whole, l.3.0) in q)
       | in-None w ↦ ap₂ (λ n s. rounds⁻¹ K D R n (cube_of s)) (let q : 2 * (2 * (R / 2)) ≡ 2 * R = omega (arith, f.back_len, k.scheduled.whole, w.in-None.ensures.item.3) in q) w.s-is
     ] in

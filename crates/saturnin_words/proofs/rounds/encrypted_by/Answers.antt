@@ -21,7 +21,7 @@ loop-slice-preserved c =
     let w = in_pairs _ _ f.front f.front_len in
     let l : 2 * i + 1 < R = omega (arith, f.front_len, k.scheduled.whole) in
     turn K D R _ k.scheduled (2 * i + 1) l (sheets K D R (2 * i + 1) (omega arith)) _ _ (w i 1 _ (omega arith) (omega arith) (omega arith)) refl _ _ s
-    (turn K D R _ k.scheduled (2 * i) (omega arith) (slices K D R (2 * i) (omega arith)) _ _ (w i 0 _ (omega arith) (omega arith) (omega arith)) c.turned-turned_key.ensures _ _ s
+    (turn K D R _ k.scheduled (2 * i) (omega arith) (slices K D R (2 * i) (omega arith)) _ _ (w i 0 _ (omega arith) (omega arith) (omega arith)) c.rotated-turned_key.ensures _ _ s
     c.loop-slice.invariant c.super_round-s.ensures) c.super_round-s-in-loop-slice.ensures
     ∙ ap (λ n. rounds K D R n s) (omega arith)
 
@@ -35,5 +35,5 @@ returns-in-Some c =
     let f = c.as_chunks.ensures in
     let l = c.in-Some.ensures.item in
     turn K D R _ k.scheduled (2 * i) (omega (arith, f.front_len, f.back_len, k.scheduled.whole, l.3.0)) (slices K D R (2 * i) (omega arith)) _ _ (l.4 (omega arith) 0 ∙ left_over _ _ f.back (2 * i) (omega (arith, f.front_len, k.scheduled.whole)))
-    c.turned-turned_key.ensures _ _ _ c.loop-slice.invariant c.super_round-s-in-Some.ensures
+    c.rotated-turned_key.ensures _ _ _ c.loop-slice.invariant c.super_round-s-in-Some.ensures
     ∙ ap₂ (rounds K D R) (omega arith) c.xor-s.ensures
