@@ -4,6 +4,7 @@ ghost use Rattle.saturnin.specs.Back.{σ₀⁻¹, σ₁⁻¹, α⁻¹};
 ghost use Rattle.saturnin_words.specs.Words.{across, quad};
 
 use crate::moves::swapped_halves;
+use std::ops::BitXor;
 
 // Four words; the four bits that stand at one place in them are a nibble.
 #[derive(Clone, Copy)]
@@ -91,17 +92,6 @@ impl Quad {
         s.sigma_back()
     }
 
-    pub(crate) fn xor(self, other: Quad) -> Quad
-        ensures { (p : ℕ) → quad result p ≡ bit_xor (quad self p) (quad other p) }
-    {
-        Quad {
-            a: self.a ^ other.a,
-            b: self.b ^ other.b,
-            c: self.c ^ other.c,
-            d: self.d ^ other.d,
-        }
-    }
-
     pub(crate) fn alpha(self) -> Quad
         ensures { (p : ℕ) → quad result p ≡ α (quad self p) }
     {
@@ -145,5 +135,20 @@ impl Quad {
         ensures { (p : ℕ) → p < 32 → quad result p ≡ quad self ((p + 16) % 32) }
     {
         self.each(swapped_halves)
+    }
+}
+
+impl BitXor for Quad {
+    type Output = Quad;
+
+    ghost bitxor_gives = { λ x y r. (p : ℕ) → quad r p ≡ bit_xor (quad x p) (quad y p) };
+
+    fn bitxor(self, other: Quad) -> Quad {
+        Quad {
+            a: self.a ^ other.a,
+            b: self.b ^ other.b,
+            c: self.c ^ other.c,
+            d: self.d ^ other.d,
+        }
     }
 }

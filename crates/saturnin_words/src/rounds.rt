@@ -42,7 +42,7 @@ fn encrypted_by(constants: Constants, key: State, block: State) -> State
 {
     let turned_key = key.rotated();
     let (pairs, rest) = constants.words.as_chunks::<2>();
-    let mut s = block.xor(key);
+    let mut s = block ^ key;
     for [slice, sheet] in pairs {
         s = s.super_round::<Slices>(turned_key, *slice);
         s = s.super_round::<Sheets>(key, *sheet);
@@ -66,5 +66,5 @@ fn decrypted_by(constants: Constants, key: State, block: State) -> State
         s = s.super_round_back::<Sheets>(key, *sheet);
         s = s.super_round_back::<Slices>(turned_key, *slice);
     }
-    s.xor(key)
+    s ^ key
 }

@@ -9,6 +9,7 @@ ghost use Rattle.saturnin_words.specs.Words.{cube_of, in_cube};
 use crate::moves::turned;
 use crate::quad::Quad;
 use crate::shifts::Shift;
+use std::ops::BitXor;
 
 // A state or a key: words 0 to 3, with the nibbles of even index, and words 4 to 7, with those of odd index.
 #[derive(Clone, Copy)]
@@ -40,21 +41,21 @@ impl State {
     pub(crate) fn columns(self) -> State
         ensures { cube_of result ≡ MC (cube_of self) }
     {
-        let even = self.even.xor(self.odd);
-        let odd = self.odd.alpha().xor(even.swapped());
-        let even = even.alpha().alpha().xor(odd);
-        let odd = odd.xor(even.swapped());
+        let even = self.even ^ self.odd;
+        let odd = self.odd.alpha() ^ even.swapped();
+        let even = even.alpha().alpha() ^ odd;
+        let odd = odd ^ even.swapped();
         State { even, odd }
     }
 
     pub(crate) fn columns_back(self) -> State
         ensures { cube_of result ≡ MC⁻¹ (cube_of self) }
     {
-        let odd = self.odd.xor(self.even.swapped());
-        let even = self.even.xor(odd).alpha_back().alpha_back();
-        let odd = odd.xor(even.swapped()).alpha_back();
+        let odd = self.odd ^ self.even.swapped();
+        let even = (self.even ^ odd).alpha_back().alpha_back();
+        let odd = (odd ^ even.swapped()).alpha_back();
         State {
-            even: even.xor(odd),
+            even: even ^ odd,
             odd,
         }
     }
@@ -86,15 +87,6 @@ impl State {
         self.turned::<16, 11, 11, 11, 11>()
     }
 
-    pub(crate) fn xor(self, key: State) -> State
-        ensures { cube_of result ≡ add (cube_of key) (cube_of self) }
-    {
-        State {
-            even: self.even.xor(key.even),
-            odd: self.odd.xor(key.odd),
-        }
-    }
-
     // Both constants in one word: RC0 goes to register 0 and RC1 to register 8, which share word 0.
     pub(crate) fn with_constants(self, word: u32) -> State
         ensures { cube_of result ≡ add (constants (word % 65536) (word / 65536)) (cube_of self) }
@@ -113,14 +105,27 @@ impl State {
     {
         let s = self.s_boxes().columns().s_boxes();
         let s = T::back(T::there(s).columns());
-        s.with_constants(word).xor(key)
+        s.with_constants(word) ^ key
     }
 
     pub(crate) fn super_round_back<T: Shift>(self, key: State, word: u32) -> State
         ensures { cube_of result ≡ super_round⁻¹ T.there T.back (cube_of key) (word % 65536) (word / 65536) (cube_of self) }
     {
-        let s = self.with_constants(word).xor(key);
+        let s = self.with_constants(word) ^ key;
         let s = T::back(T::there(s).columns_back());
         s.s_boxes_back().columns_back().s_boxes_back()
+    }
+}
+
+impl BitXor for State {
+    type Output = State;
+
+    ghost bitxor_gives = { λ s key r. cube_of r ≡ add (cube_of key) (cube_of s) };
+
+    fn bitxor(self, key: State) -> State {
+        State {
+            even: self.even ^ key.even,
+            odd: self.odd ^ key.odd,
+        }
     }
 }

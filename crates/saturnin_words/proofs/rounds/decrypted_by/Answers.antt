@@ -61,4 +61,4 @@ returns c =
           ∙ ap (λ n. rounds⁻¹ K D R n (cube_of c.args.block)) (let q : 2 * (2 * (R / 2) + 1) ≡ 2 * R = omega (arith, f.back_len, k.scheduled.whole, l.3.0) in q)
       | in-None w ↦ ap₂ (λ n s. rounds⁻¹ K D R n (cube_of s)) (let q : 2 * (2 * (R / 2)) ≡ 2 * R = omega (arith, f.back_len, k.scheduled.whole, w.in-None.ensures.item.3) in q) w.s-is
     ] in
-    c.xor.ensures ∙ ap (add K) (ap (λ n. rounds⁻¹ K D R (2 * (2 * n)) (cube_of c.loop-slice.s)) (sym e) ∙ c.loop-slice.invariant.undone ∙ first)
+    c.bitxor.ensures ∙ ap (add K) (ap (λ n. rounds⁻¹ K D R (2 * (2 * n)) (cube_of c.loop-slice.s)) (sym e) ∙ c.loop-slice.invariant.undone ∙ first)

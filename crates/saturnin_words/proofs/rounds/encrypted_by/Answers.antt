@@ -16,7 +16,7 @@ loop-slice-preserved c =
     let R = k.of.r in
     let K = cube_of c.args.key in
     let i = c.loop-slice.slice-index in
-    let s = cube_of c.xor-s.result in
+    let s = cube_of c.bitxor-s.result in
     let f = c.as_chunks.ensures in
     let w = in_pairs _ _ f.front f.front_len in
     let l : 2 * i + 1 < R = omega (arith, f.front_len, k.scheduled.whole) in
@@ -36,4 +36,4 @@ returns-in-Some c =
     let l = c.in-Some.ensures.item in
     turn K D R _ k.scheduled (2 * i) (omega (arith, f.front_len, f.back_len, k.scheduled.whole, l.3.0)) (slices K D R (2 * i) (omega arith)) _ _ (l.4 (omega arith) 0 ∙ left_over _ _ f.back (2 * i) (omega (arith, f.front_len, k.scheduled.whole)))
     c.rotated-turned_key.ensures _ _ _ c.loop-slice.invariant c.super_round-s-in-Some.ensures
-    ∙ ap₂ (rounds K D R) (omega arith) c.xor-s.ensures
+    ∙ ap₂ (rounds K D R) (omega arith) c.bitxor-s.ensures
