@@ -1,8 +1,10 @@
 -- Words made of masked and shifted parts of a word: which bit stands where is settled by a test at each of 32 places.
-use Rattle.std.proofs.Common.{◌≡◌, ℕ, ◌+◌, ◌-◌, ◌*◌, ◌/◌, ◌%◌, ◌^◌, ◌<◌, Bool, true, false, cond, T, eqb, leb, sym, ap, ◌∙◌, subst, ap₂, inl, inr, lit<, eqb→eq}
+use Rattle.std.proofs.Common.{◌≡◌, ℕ, ◌+◌, ◌-◌, ◌*◌, ◌/◌, ◌%◌, ◌^◌, ◌<◌, ◌≤◌, ◌⊎◌, arith, Bool, true, false, cond, T, eqb, leb, sym, ap, ◌∙◌, subst, ap₂, inl, inr, lit<, eqb→eq}
 use lib.Bits.{bit_and, bit_or, and_zero_r, or_lt}
+use Rattle.std.proofs.lemmas.Nat.{and_mask}
 use Rattle.std.proofs.lemmas.Bool.{cases_Bool, leb-true, leb-false}
 use Rattle.saturnin.specs.Bits.{bit}
+use Rattle.saturnin_words.specs.Words.{in_word}
 use Rattle.saturnin.proofs.Bits.{both, both_left, both_right, below, at_below, same_on_bits, bit-bit_and, bit-bit_or, bit_shr, bit_shl, bit_shl_low, bit_mod, bit_lt, and_one}
 
 pub data Sel : Type 0 where
@@ -79,3 +81,39 @@ moves e source t x p h =
     picked e x p (source p) h (both_left (only e p (source p)) (eqb (picks e p) 1) c) ∙
     ap (λ v. bit_and (bit x (source p)) v) (eqb→eq (picks e p) 1 (both_right (only e p (source p)) (eqb (picks e p) 1) c)) ∙
     and_one (bit x (source p)) (bit_lt x (source p))
+
+-- a half turn of a word
+pub swapped : (x p : ℕ) → x < 2 ^ 32 → p < 32 → bit (bit_or (x * 2 ^ 16 % 2 ^ 32) (x / 2 ^ 16)) p ≡ bit x ((p + 16) % 32)
+unfolding bit
+swapped x p l h =
+    let whole : bit_and x 0xffffffff ≡ x = and_mask x 32 ∙ omega arith in
+    subst (λ (v : ℕ). bit (bit_or (v * 2 ^ 16 % 2 ^ 32) (v / 2 ^ 16)) p ≡ bit x ((p + 16) % 32)) whole
+    (moves (or (left 0xffffffff 16) (right 0xffffffff 16)) (λ p. (p + 16) % 32) tt x p h)
+
+-- the word that `turned` makes
+abbrev group : ℕ → ℕ
+group W = 1 * 2 ^ W % 2 ^ 32 - 1
+
+abbrev kept : (W places : ℕ) → ℕ
+kept W places = 0xffff / group W * (group W / 2 ^ places)
+
+abbrev pub turn : (W L H : ℕ) → Sel
+turn W L H =
+    or (or (or (left (kept W L) L) (right (0xffff - kept W L) (W - L))) (left (kept W H * 2 ^ 16 % 2 ^ 32) H))
+    (right (0xffff0000 - kept W H * 2 ^ 16 % 2 ^ 32) (W - H))
+
+abbrev all_turn : ℕ → Bool
+all_turn W = below (λ l. below (λ h. below (check (turn W l h) (in_word W l h)) 32) (W + 1)) (W + 1)
+
+pub turns : (W L H : ℕ) → (W ≡ 4) ⊎ (W ≡ 16) → L ≤ W → H ≤ W → (x p : ℕ) → p < 32 → bit (word (turn W L H) x) p ≡ bit x (in_word W L H p)
+unfolding bit
+turns W L H w l h x p k = elim w [ inl e ↦ at_width 4 tt e | inr e ↦ at_width 16 tt e ]
+  where
+    at_width : (V : ℕ) → T (all_turn V) → W ≡ V → bit (word (turn W L H) x) p ≡ bit x (in_word W L H p)
+    at_width V t e =
+        subst (λ (W : ℕ). L ≤ W → H ≤ W → bit (word (turn W L H) x) p ≡ bit x (in_word W L H p)) (sym e)
+        (λ l h.
+        moves (turn V L H) (in_word V L H)
+        (at_below (λ h. below (check (turn V L h) (in_word V L h)) 32) (V + 1)
+        (at_below (λ l. below (λ h. below (check (turn V l h) (in_word V l h)) 32) (V + 1)) (V + 1) t L (omega arith)) H (omega arith)) x p k)
+        l h

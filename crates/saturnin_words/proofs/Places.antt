@@ -1,12 +1,14 @@
 -- Where the nibbles of a cube stand in the words, and what that says of moves, S-boxes, columns and sums.
-use Rattle.std.proofs.Common.{◌≡◌, ℕ, zero, suc, ◌+◌, ◌*◌, ◌/◌, ◌%◌, ◌<◌, Bool, true, false, cond, T, eqb, ltb, sym, ap, ◌∙◌, ap₂, add-zero, arith, eqb→eq, ltb→lt}
+use Rattle.std.proofs.Common.{◌≡◌, ℕ, zero, suc, ◌+◌, ◌*◌, ◌/◌, ◌%◌, ◌<◌, ◌⊎◌, List, [], ◌∷◌, Bool, true, false, cond, T, eqb, refl, inl, inr, sym, ap, ◌∙◌, ap₂, add-zero, arith}
+use Rattle.std.proofs.lemmas.Bool.{lt-ltb, le-ltb}
 use lib.Bits.{bit_xor}
 use Rattle.saturnin.specs.Bits.{bit}
 use Rattle.saturnin.specs.Cube.{at, cube}
 use Rattle.saturnin.specs.Layers.{add}
-use Rattle.saturnin.proofs.Bits.{both, both_left, both_right, below, at_below}
+use Rattle.saturnin.proofs.Bits.{below, same_below}
 use Rattle.saturnin.proofs.Tables.{at_table, same_table}
-use Rattle.saturnin_words.specs.Words.{across, quad, bit_of, cube_of}
+use Rattle.saturnin_words.specs.Words.{across, quad, bit_of, cube_of, in_row, in_word, in_cube}
+use Rattle.saturnin_words.specs.declared.quad.Quad.{Quad}
 use Rattle.saturnin_words.specs.declared.state.State.{State}
 
 -- the nibble at bit p of the even words (m is 0) or of the odd ones
@@ -69,32 +71,36 @@ added r k w e o =
     pick false x y k l x' y' e f = f
 
 -- moves: the bits of four words, from other places
-pub across_moves : (a b c d a' b' c' d' p s : ℕ) → bit a' p ≡ bit a s → bit b' p ≡ bit b s → bit c' p ≡ bit c s → bit d' p ≡ bit d s
-    → across a' b' c' d' p ≡ across a b c d s
+pub each_moves : (q r : Quad) (source : ℕ → ℕ)
+    → ((p : ℕ) → p < 32 → bit r.a p ≡ bit q.a (source p)) → ((p : ℕ) → p < 32 → bit r.b p ≡ bit q.b (source p))
+    → ((p : ℕ) → p < 32 → bit r.c p ≡ bit q.c (source p)) → ((p : ℕ) → p < 32 → bit r.d p ≡ bit q.d (source p))
+    → (p : ℕ) → p < 32 → quad r p ≡ quad q (source p)
 unfolding across
-across_moves a b c d a' b' c' d' p s ea eb ec ed = rw (ea, eb, ec, ed)
+each_moves q r source ea eb ec ed p h = rw (ea p h, eb p h, ec p h, ed p h)
 
--- nibble i of the one cube is nibble `from i` of the other: a test at each of 64 places
-abbrev pub fits : (even odd from : ℕ → ℕ) → ℕ → Bool
-fits even odd from i =
-    both (ltb (from i) 64) (both (eqb (from i % 2) (i % 2)) (eqb (cond (eqb (i % 2) 0) (even (bit_of i)) (odd (bit_of i))) (bit_of (from i))))
-
-pub moved : (even odd from : ℕ → ℕ) → T (below (fits even odd from) 64) → (r w : State)
-    → ((p : ℕ) → p < 32 → quad r.even p ≡ quad w.even (even p)) → ((p : ℕ) → p < 32 → quad r.odd p ≡ quad w.odd (odd p))
-    → cube_of r ≡ cube (λ i. at (cube_of w) (from i))
-unfolding cube_of
-moved even odd from t r w e o =
-    same_table 64 _ _ (λ i h.
-    let f : T (fits even odd from i) = at_below (fits even odd from) 64 t i h in
-    let l : from i < 64 = ltb→lt (from i) 64 (both_left _ _ f) in
-    let g = both_right (ltb (from i) 64) _ f in
-    let m : from i % 2 ≡ i % 2 = eqb→eq (from i % 2) (i % 2) (both_left _ _ g) in
-    let n : cond (eqb (i % 2) 0) (even (bit_of i)) (odd (bit_of i)) ≡ bit_of (from i) = eqb→eq _ (bit_of (from i)) (both_right (eqb (from i % 2) (i % 2)) _ g) in
-    let q : bit_of i < 32 = ltb→lt (bit_of i) 32 (at_below (λ i. ltb (bit_of i) 32) 64 tt i h) in
-    pick (eqb (i % 2) 0) (even (bit_of i)) (odd (bit_of i)) (quad r.even (bit_of i)) (quad r.odd (bit_of i)) (quad w.even) (quad w.odd) (bit_of (from i)) (e (bit_of i) q) (o (bit_of i) q) n
-    ∙ ap (λ v. cond (eqb v 0) (quad w.even (bit_of (from i))) (quad w.odd (bit_of (from i)))) (sym m)
-    ∙ sym (at-cube_of w (from i) l))
+-- rows that turn
+pub rows_turned : (r w : State) (W y0 y1 y2 y3 : ℕ) → (W ≡ 4) ⊎ (W ≡ 16)
+    → ((p : ℕ) → p < 32 → quad r.even p ≡ quad w.even (in_word W y0 y2 p)) → ((p : ℕ) → p < 32 → quad r.odd p ≡ quad w.odd (in_word W y1 y3 p))
+    → cube_of r ≡ cube (λ i. at (cube_of w) (in_cube W (at (y0 ∷ y1 ∷ y2 ∷ y3 ∷ [])) i))
+rows_turned r w W y0 y1 y2 y3 wide e o =
+    by_rows r (λ y b. at (cube_of w) (y + 4 * in_row W (at (y0 ∷ y1 ∷ y2 ∷ y3 ∷ []) y) b))
+    (λ b h. e b (omega arith) ∙ ap (quad w.even) (low y0 y2 b h) ∙ there 0 y0 b 0 (in_row W y0 b) h (omega arith) refl (omega arith))
+    (λ b h. o b (omega arith) ∙ ap (quad w.odd) (low y1 y3 b h) ∙ there 1 y1 b 1 (in_row W y1 b) h (omega arith) refl (omega arith))
+    (λ b h. e (b + 16) (omega arith) ∙ ap (quad w.even) (high y0 y2 b h) ∙ there 2 y2 b 0 (16 + in_row W y2 b) h (omega arith) refl (omega arith))
+    (λ b h. o (b + 16) (omega arith) ∙ ap (quad w.odd) (high y1 y3 b h) ∙ there 3 y3 b 1 (16 + in_row W y3 b) h (omega arith) refl (omega arith))
   where
-    pick : (b : Bool) (x y x' y' : ℕ) (P Q : ℕ → ℕ) (n : ℕ) → x' ≡ P x → y' ≡ Q y → cond b x y ≡ n → cond b x' y' ≡ cond b (P n) (Q n)
-    pick true x y x' y' P Q n e f g = e ∙ ap P g
-    pick false x y x' y' P Q n e f g = f ∙ ap Q g
+    inside : (t b : ℕ) → b < 16 → in_row W t b < 16
+    inside t b h = elim wide [ inl e ↦ rw e (omega arith) | inr e ↦ rw e (omega arith) ]
+
+    there : (y t b m p : ℕ) → b < 16 → y < 4 → y % 2 ≡ m → in_row W t b + 16 * (y / 2) ≡ p → read w m p ≡ at (cube_of w) (y + 4 * in_row W t b)
+    there y t b m p h k e q = let g : ℕ = in_row W t b in let l : g < 16 = inside t b h in sym (at_place w (y + 4 * g) m p (omega arith) (omega arith) (omega arith))
+
+    low : (l h b : ℕ) → b < 16 → in_word W l h b ≡ in_row W l b
+    low l h b k = rw (lt-ltb b 16 k)
+
+    high : (l h b : ℕ) → b < 16 → in_word W l h (b + 16) ≡ 16 + in_row W h b
+    high l h b k = rw (le-ltb (b + 16) 16 (omega arith)) (ap (λ b. 16 + in_row W h b) (omega arith))
+
+-- nibbles from the same places
+pub same_places : (s : List ℕ) (f g : ℕ → ℕ) → T (below (λ i. eqb (f i) (g i)) 64) → cube (λ i. at s (f i)) ≡ cube (λ i. at s (g i))
+same_places s f g t = same_table 64 _ _ (λ i h. ap (at s) (same_below f g 64 t i h))

@@ -20,16 +20,14 @@ bit_of i = i / 4 + 16 * (i % 4 / 2)
 unfoldable pub cube_of : State → Cube
 cube_of w = cube (λ i. cond (i % 2 == 0) (quad w.even (bit_of i)) (quad w.odd (bit_of i)))
 
--- where a move takes bit b of row y from: the shift in slices, the shift in sheets, the rotation of the key
-abbrev pub in_slice : (y b : ℕ) → ℕ
-in_slice y b = 4 * (b / 4) + (b % 4 + 4 - y) % 4
+-- where a row whose bits turn so many places up, in groups of `width`, takes its bit b from
+abbrev pub in_row : (width places b : ℕ) → ℕ
+in_row width places b = width * (b / width) + (b % width + width - places) % width
 
-abbrev pub in_sheet : (y b : ℕ) → ℕ
-in_sheet y b = 4 * ((b / 4 + 4 - y) % 4) + b % 4
+-- the same of a word, which has one row in its lower half and one in its upper half, and of a cube, whose bits of row y turn
+-- `places y` up
+abbrev pub in_word : (width low high p : ℕ) → ℕ
+in_word width low high p = cond (nat_lt p 16) (in_row width low p) (16 + in_row width high (p - 16))
 
-abbrev pub in_key : (y b : ℕ) → ℕ
-in_key y b = (b + 5) % 16
-
--- the same on a word that has one row in its lower half and one in its upper half
-abbrev pub in_word : (from : ℕ → ℕ → ℕ) (low high p : ℕ) → ℕ
-in_word from low high p = cond (nat_lt p 16) (from low p) (16 + from high (p - 16))
+abbrev pub in_cube : (width : ℕ) (places : ℕ → ℕ) (i : ℕ) → ℕ
+in_cube width places i = i % 4 + 4 * in_row width (places (i % 4)) (i / 4)

@@ -1,4 +1,4 @@
-ghost use Rattle.std.specs.Prelude.{◌≡◌, ℕ, ◌<◌};
+ghost use Rattle.std.specs.Prelude.{◌≡◌, ◌+◌, ◌<◌};
 ghost use Rattle.saturnin.specs.Cube.{word, to_cube, from_cube};
 ghost use Rattle.saturnin_words.specs.Words.{cube_of};
 
@@ -18,22 +18,29 @@ fn word_at(bytes: &[u8; 32], j: usize) -> u32
     ])
 }
 
+// Words j to j + 3.
+fn quad_at(bytes: &[u8; 32], j: usize) -> Quad
+    requires { j < 5 }
+    ensures a { result.a ≡ word bytes.now j }
+    ensures b { result.b ≡ word bytes.now (j + 1) }
+    ensures c { result.c ≡ word bytes.now (j + 2) }
+    ensures d { result.d ≡ word bytes.now (j + 3) }
+{
+    Quad {
+        a: word_at(bytes, j),
+        b: word_at(bytes, j + 1),
+        c: word_at(bytes, j + 2),
+        d: word_at(bytes, j + 3),
+    }
+}
+
 pub(crate) fn load(bytes: &[u8; 32]) -> State
     ensures { cube_of result ≡ to_cube bytes.now }
 {
-    let even = Quad {
-        a: word_at(bytes, 0),
-        b: word_at(bytes, 1),
-        c: word_at(bytes, 2),
-        d: word_at(bytes, 3),
-    };
-    let odd = Quad {
-        a: word_at(bytes, 4),
-        b: word_at(bytes, 5),
-        c: word_at(bytes, 6),
-        d: word_at(bytes, 7),
-    };
-    State { even, odd }
+    State {
+        even: quad_at(bytes, 0),
+        odd: quad_at(bytes, 4),
+    }
 }
 
 pub(crate) fn store(s: State) -> [u8; 32]
@@ -43,8 +50,8 @@ pub(crate) fn store(s: State) -> [u8; 32]
         s.even.a, s.even.b, s.even.c, s.even.d, s.odd.a, s.odd.b, s.odd.c, s.odd.d,
     ];
     let mut bytes = [0; 32];
-    for j in 0..8 {
-        let [low, high, upper_low, upper_high] = words[j].to_le_bytes();
+    for (j, word) in words.iter().enumerate() {
+        let [low, high, upper_low, upper_high] = word.to_le_bytes();
         bytes[2 * j] = low;
         bytes[2 * j + 1] = high;
         bytes[2 * j + 16] = upper_low;

@@ -5,6 +5,7 @@ mod constants;
 mod moves;
 mod quad;
 mod rounds;
+mod shifts;
 mod state;
 mod tables;
 
@@ -14,7 +15,7 @@ ghost use Rattle.saturnin.proofs.Laws.{forward-gives_blocks, forward-two_way};
 
 use bytes::{load, store};
 use rounds::{decrypted, encrypted};
-use saturnin::{Cipher, Separator, SuperRounds, TwoWayCipher};
+use saturnin::{Cipher, Parameters, TwoWayCipher};
 
 // Saturnin in eight 32-bit words, with the S-boxes by AND, OR and XOR.
 #[derive(Clone, Copy)]
@@ -25,14 +26,8 @@ impl Cipher for WordForm {
 
     ghost gives_blocks = { λ c. forward-gives_blocks };
 
-    fn encrypt_block(
-        &self,
-        key: &[u8; 32],
-        d: Separator,
-        r: SuperRounds,
-        block: &[u8; 32],
-    ) -> [u8; 32] {
-        store(encrypted(load(key), d, r, load(block)))
+    fn encrypt_block(&self, key: &[u8; 32], by: Parameters, block: &[u8; 32]) -> [u8; 32] {
+        store(encrypted(load(key), by, load(block)))
     }
 }
 
@@ -41,13 +36,7 @@ impl TwoWayCipher for WordForm {
 
     ghost two_way = { λ c. forward-two_way };
 
-    fn decrypt_block(
-        &self,
-        key: &[u8; 32],
-        d: Separator,
-        r: SuperRounds,
-        block: &[u8; 32],
-    ) -> [u8; 32] {
-        store(decrypted(load(key), d, r, load(block)))
+    fn decrypt_block(&self, key: &[u8; 32], by: Parameters, block: &[u8; 32]) -> [u8; 32] {
+        store(decrypted(load(key), by, load(block)))
     }
 }

@@ -4,6 +4,7 @@ ghost use Rattle.saturnin.specs.Back.{σ₀⁻¹, σ₁⁻¹, α⁻¹};
 ghost use Rattle.saturnin_words.specs.Words.{across, quad};
 
 use crate::moves::swapped_halves;
+use std::ops::BitXor;
 
 // Four words; the four bits that stand at one place in them are a nibble.
 #[derive(Clone, Copy)]
@@ -91,17 +92,6 @@ impl Quad {
         s.sigma_back()
     }
 
-    pub(crate) fn xor(self, other: Quad) -> Quad
-        ensures { (p : ℕ) → quad result p ≡ bit_xor (quad self p) (quad other p) }
-    {
-        Quad {
-            a: self.a ^ other.a,
-            b: self.b ^ other.b,
-            c: self.c ^ other.c,
-            d: self.d ^ other.d,
-        }
-    }
-
     pub(crate) fn alpha(self) -> Quad
         ensures { (p : ℕ) → quad result p ≡ α (quad self p) }
     {
@@ -124,15 +114,41 @@ impl Quad {
         }
     }
 
+    // One move on each of the four words.
+    pub(crate) fn each<F: Fn(u32) -> u32>(self, f: F) -> Quad
+        requires { F.IsAlwaysCallable f }
+        ensures a { F.post f self.a result.a }
+        ensures b { F.post f self.b result.b }
+        ensures c { F.post f self.c result.c }
+        ensures d { F.post f self.d result.d }
+    {
+        Quad {
+            a: f(self.a),
+            b: f(self.b),
+            c: f(self.c),
+            d: f(self.d),
+        }
+    }
+
     // Rows 0 and 2, or 1 and 3, change places.
     pub(crate) fn swapped(self) -> Quad
         ensures { (p : ℕ) → p < 32 → quad result p ≡ quad self ((p + 16) % 32) }
     {
+        self.each(swapped_halves)
+    }
+}
+
+impl BitXor for Quad {
+    type Output = Quad;
+
+    ghost bitxor_gives = { λ x y r. (p : ℕ) → quad r p ≡ bit_xor (quad x p) (quad y p) };
+
+    fn bitxor(self, other: Quad) -> Quad {
         Quad {
-            a: swapped_halves(self.a),
-            b: swapped_halves(self.b),
-            c: swapped_halves(self.c),
-            d: swapped_halves(self.d),
+            a: self.a ^ other.a,
+            b: self.b ^ other.b,
+            c: self.c ^ other.c,
+            d: self.d ^ other.d,
         }
     }
 }

@@ -1,32 +1,21 @@
-ghost use Rattle.std.specs.Prelude.{◌≡◌, ◌/◌, ◌%◌};
-ghost use Rattle.saturnin.specs.Layers.{S, SR_slice, SR_slice⁻¹, SR_sheet, SR_sheet⁻¹, MC, add};
+ghost use Rattle.std.specs.Prelude.{◌≡◌, ◌/◌, ◌%◌, ◌≤◌, ◌⊎◌, [], ◌∷◌};
+ghost use Rattle.saturnin.specs.Cube.{at, cube};
+ghost use Rattle.saturnin.specs.Layers.{S, MC, add};
 ghost use Rattle.saturnin.specs.Back.{S⁻¹, MC⁻¹};
 ghost use Rattle.saturnin.specs.Rounds.{constants, rotated};
-ghost use Rattle.saturnin.specs.TwoRounds.{slice_round, slice_round⁻¹, sheet_round, sheet_round⁻¹};
-ghost use Rattle.saturnin_words.specs.Words.{cube_of};
+ghost use Rattle.saturnin.specs.TwoRounds.{super_round, super_round⁻¹};
+ghost use Rattle.saturnin_words.specs.Words.{cube_of, in_cube};
 
-use crate::moves::{
-    key_turned, sheet_even, sheet_odd, sheet_odd_back, slice_even, slice_odd, slice_odd_back,
-};
+use crate::moves::turned;
 use crate::quad::Quad;
+use crate::shifts::Shift;
+use std::ops::BitXor;
 
 // A state or a key: words 0 to 3, with the nibbles of even index, and words 4 to 7, with those of odd index.
 #[derive(Clone, Copy)]
 pub(crate) struct State {
     pub(crate) even: Quad,
     pub(crate) odd: Quad,
-}
-
-// One move on each of four words.
-macro_rules! each {
-    ($move:ident, $quad:expr) => {
-        Quad {
-            a: $move($quad.a),
-            b: $move($quad.b),
-            c: $move($quad.c),
-            d: $move($quad.d),
-        }
-    };
 }
 
 impl State {
@@ -52,125 +41,91 @@ impl State {
     pub(crate) fn columns(self) -> State
         ensures { cube_of result ≡ MC (cube_of self) }
     {
-        let even = self.even.xor(self.odd);
-        let odd = self.odd.alpha().xor(even.swapped());
-        let even = even.alpha().alpha().xor(odd);
-        let odd = odd.xor(even.swapped());
+        let even = self.even ^ self.odd;
+        let odd = self.odd.alpha() ^ even.swapped();
+        let even = even.alpha().alpha() ^ odd;
+        let odd = odd ^ even.swapped();
         State { even, odd }
     }
 
     pub(crate) fn columns_back(self) -> State
         ensures { cube_of result ≡ MC⁻¹ (cube_of self) }
     {
-        let odd = self.odd.xor(self.even.swapped());
-        let even = self.even.xor(odd).alpha_back().alpha_back();
-        let odd = odd.xor(even.swapped()).alpha_back();
+        let odd = self.odd ^ self.even.swapped();
+        let even = (self.even ^ odd).alpha_back().alpha_back();
+        let odd = (odd ^ even.swapped()).alpha_back();
         State {
-            even: even.xor(odd),
+            even: even ^ odd,
             odd,
         }
     }
 
-    pub(crate) fn slices(self) -> State
-        ensures { cube_of result ≡ SR_slice (cube_of self) }
+    // Row y turns Yy places up, in groups of WIDTH bits.
+    pub(crate) fn turned<
+        const WIDTH: u32,
+        const Y0: u32,
+        const Y1: u32,
+        const Y2: u32,
+        const Y3: u32,
+    >(self) -> State
+        requires width { (WIDTH ≡ 4) ⊎ (WIDTH ≡ 16) }
+        requires y0 { Y0 ≤ WIDTH }
+        requires y1 { Y1 ≤ WIDTH }
+        requires y2 { Y2 ≤ WIDTH }
+        requires y3 { Y3 ≤ WIDTH }
+        ensures { cube_of result ≡ cube (λ i. at (cube_of self) (in_cube WIDTH (at (Y0 ∷ Y1 ∷ Y2 ∷ Y3 ∷ [])) i)) }
     {
         State {
-            even: each!(slice_even, self.even),
-            odd: each!(slice_odd, self.odd),
+            even: self.even.each(turned::<WIDTH, Y0, Y2>),
+            odd: self.odd.each(turned::<WIDTH, Y1, Y3>),
         }
     }
 
-    pub(crate) fn slices_back(self) -> State
-        ensures { cube_of result ≡ SR_slice⁻¹ (cube_of self) }
-    {
-        State {
-            even: each!(slice_even, self.even),
-            odd: each!(slice_odd_back, self.odd),
-        }
-    }
-
-    pub(crate) fn sheets(self) -> State
-        ensures { cube_of result ≡ SR_sheet (cube_of self) }
-    {
-        State {
-            even: each!(sheet_even, self.even),
-            odd: each!(sheet_odd, self.odd),
-        }
-    }
-
-    pub(crate) fn sheets_back(self) -> State
-        ensures { cube_of result ≡ SR_sheet⁻¹ (cube_of self) }
-    {
-        State {
-            even: each!(sheet_even, self.even),
-            odd: each!(sheet_odd_back, self.odd),
-        }
-    }
-
-    pub(crate) fn turned(self) -> State
+    pub(crate) fn rotated(self) -> State
         ensures { cube_of result ≡ rotated (cube_of self) }
     {
-        State {
-            even: each!(key_turned, self.even),
-            odd: each!(key_turned, self.odd),
-        }
-    }
-
-    pub(crate) fn xor(self, key: State) -> State
-        ensures { cube_of result ≡ add (cube_of key) (cube_of self) }
-    {
-        State {
-            even: self.even.xor(key.even),
-            odd: self.odd.xor(key.odd),
-        }
+        self.turned::<16, 11, 11, 11, 11>()
     }
 
     // Both constants in one word: RC0 goes to register 0 and RC1 to register 8, which share word 0.
     pub(crate) fn with_constants(self, word: u32) -> State
         ensures { cube_of result ≡ add (constants (word % 65536) (word / 65536)) (cube_of self) }
     {
-        let q = self.even;
-        let even = Quad {
-            a: q.a ^ word,
-            b: q.b,
-            c: q.c,
-            d: q.d,
-        };
         State {
-            even,
-            odd: self.odd,
+            even: Quad {
+                a: self.even.a ^ word,
+                ..self.even
+            },
+            ..self
         }
     }
 
-    pub(crate) fn slice_round(self, key: State, word: u32) -> State
-        ensures { cube_of result ≡ slice_round (cube_of key) (word % 65536) (word / 65536) (cube_of self) }
+    pub(crate) fn super_round<T: Shift>(self, key: State, word: u32) -> State
+        ensures { cube_of result ≡ super_round T.there T.back (cube_of key) (word % 65536) (word / 65536) (cube_of self) }
     {
         let s = self.s_boxes().columns().s_boxes();
-        let s = s.slices().columns().slices_back();
-        s.with_constants(word).xor(key)
+        let s = T::back(T::there(s).columns());
+        s.with_constants(word) ^ key
     }
 
-    pub(crate) fn slice_round_back(self, key: State, word: u32) -> State
-        ensures { cube_of result ≡ slice_round⁻¹ (cube_of key) (word % 65536) (word / 65536) (cube_of self) }
+    pub(crate) fn super_round_back<T: Shift>(self, key: State, word: u32) -> State
+        ensures { cube_of result ≡ super_round⁻¹ T.there T.back (cube_of key) (word % 65536) (word / 65536) (cube_of self) }
     {
-        let s = self.with_constants(word).xor(key);
-        let s = s.slices().columns_back().slices_back();
+        let s = self.with_constants(word) ^ key;
+        let s = T::back(T::there(s).columns_back());
         s.s_boxes_back().columns_back().s_boxes_back()
     }
+}
 
-    pub(crate) fn sheet_round(self, key: State, word: u32) -> State
-        ensures { cube_of result ≡ sheet_round (cube_of key) (word % 65536) (word / 65536) (cube_of self) }
-    {
-        let s = self.s_boxes().columns().s_boxes();
-        let s = s.sheets().columns().sheets_back();
-        s.with_constants(word).xor(key)
-    }
+impl BitXor for State {
+    type Output = State;
 
-    pub(crate) fn sheet_round_back(self, key: State, word: u32) -> State
-        ensures { cube_of result ≡ sheet_round⁻¹ (cube_of key) (word % 65536) (word / 65536) (cube_of self) }
-    {
-        let s = self.with_constants(word).xor(key);
-        let s = s.sheets().columns_back().sheets_back();
-        s.s_boxes_back().columns_back().s_boxes_back()
+    ghost bitxor_gives = { λ s key r. cube_of r ≡ add (cube_of key) (cube_of s) };
+
+    fn bitxor(self, key: State) -> State {
+        State {
+            even: self.even ^ key.even,
+            odd: self.odd ^ key.odd,
+        }
     }
 }

@@ -1,8 +1,7 @@
-use Rattle.std.proofs.Common.{◌+◌, ◌%◌}
+use Rattle.std.proofs.Common.{ap, ◌∙◌, arith}
 use Rattle.saturnin.specs.Bits.{bit}
-use Rattle.saturnin_words.proofs.Masks.{moves, left, right, or}
+use Rattle.saturnin_words.proofs.Masks.{swapped}
 use Rattle.saturnin_words.proofs.moves.swapped_halves.Goals as goal
 
 pub returns : goal.returns
-unfolding bit
-returns c p h = moves (or (left 0xffff 16) (right 0xffff0000 16)) (λ p. (p + 16) % 32) tt c.args.x p h
+returns c p h = ap (λ v. bit v p) c.rotate_left.ensures ∙ swapped c.args.x p (omega arith) h

@@ -1,9 +1,15 @@
-use Rattle.std.proofs.Common.{◌≡◌, ◌*◌}
+use Rattle.std.proofs.Common.{◌≡◌, ◌*◌, ◌/◌, ◌≤◌, length}
 use Rattle.saturnin.specs.Back.{rounds⁻¹}
 use Rattle.saturnin_words.specs.Words.{cube_of}
+use Rattle.saturnin_words.proofs.Turns.{Pairs}
 use Rattle.saturnin_words.proofs.rounds.decrypted_by.Given as goal
 
-abbrev pub invariant-loop-i : goal.invariant-loop-i
-invariant-loop-i l =
-    rounds⁻¹ (cube_of l.key) l.constants.d.value l.constants.r.value (2 * (2 * l.i)) (cube_of l.s)
-    ≡ rounds⁻¹ (cube_of l.key) l.constants.d.value l.constants.r.value (2 * (2 * l.pairs)) (cube_of l.initial.s)
+abbrev pub invariant-loop-slice : goal.invariant-loop-slice
+invariant-loop-slice l =
+    let left = l.slice-iterator.iter.rest.now in
+    let by = l.constants.of in record {
+      pairs : Pairs l.constants.words.now left;
+      fit : length left ≤ by.r / 2;
+      undone : rounds⁻¹ (cube_of l.key) by.d by.r (2 * (2 * length left)) (cube_of l.s)
+          ≡ rounds⁻¹ (cube_of l.key) by.d by.r (2 * (2 * (by.r / 2))) (cube_of l.initial.s);
+    }

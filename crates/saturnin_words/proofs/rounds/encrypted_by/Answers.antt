@@ -1,38 +1,39 @@
-use Rattle.std.proofs.Common.{◌≡◌, ◌+◌, ◌*◌, ◌/◌, refl, ap, ◌∙◌, ap₂, arith}
+use Rattle.std.proofs.Common.{◌+◌, ◌*◌, ◌<◌, refl, ap, ◌∙◌, ap₂, arith}
 use Rattle.saturnin.specs.Rounds.{rounds}
+use Rattle.saturnin.proofs.TwoRounds.{slices, sheets}
 use Rattle.saturnin_words.specs.Words.{cube_of}
-use Rattle.saturnin_words.proofs.Turns.{slice_turn, sheet_turn}
+use Rattle.saturnin_words.proofs.Turns.{in_pairs, left_over, turn}
 use Rattle.saturnin_words.proofs.rounds.encrypted_by.Goals as goal
 
-pub loop-i-init : goal.loop-i-init
+pub loop-slice-init : goal.loop-slice-init
 unfolding rounds
-loop-i-init c = refl
+loop-slice-init c = refl
 
-pub loop-i-preserved : goal.loop-i-preserved
-loop-i-preserved c =
+pub loop-slice-preserved : goal.loop-slice-preserved
+loop-slice-preserved c =
     let k = c.args.constants in
-    let D = k.d.value in
-    let R = k.r.value in
+    let D = k.of.d in
+    let R = k.of.r in
     let K = cube_of c.args.key in
-    let i = c.loop-i.i in
-    let s = cube_of c.xor-s.result in
-    let first = slice_turn K _ c.turned-turned_key.ensures D R k.words.now k.lower k.upper (2 * i) (omega arith) _ _ s (omega arith) c.loop-i.invariant c.slice_round-s.ensures in
-    sheet_turn K _ c.turned-turned_key.ensures D R k.words.now k.lower k.upper (2 * i + 1) (omega arith) _ _ s (omega arith) first c.sheet_round-s.ensures
+    let i = c.loop-slice.slice-index in
+    let s = cube_of c.bitxor-s.result in
+    let f = c.as_chunks.ensures in
+    let w = in_pairs _ _ f.front f.front_len in
+    let l : 2 * i + 1 < R = omega (arith, f.front_len, k.scheduled.whole) in
+    turn K D R _ k.scheduled (2 * i + 1) l (sheets K D R (2 * i + 1) (omega arith)) _ _ (w i 1 _ (omega arith) (omega arith) (omega arith)) refl _ _ s
+    (turn K D R _ k.scheduled (2 * i) (omega arith) (slices K D R (2 * i) (omega arith)) _ _ (w i 0 _ (omega arith) (omega arith) (omega arith)) c.rotated-turned_key.ensures _ _ s
+    c.loop-slice.invariant c.super_round-s.ensures) c.super_round-s-in-loop-slice.ensures
     ∙ ap (λ n. rounds K D R n s) (omega arith)
 
-pub returns-then-constants-eq1 : goal.returns-then-constants-eq1
-returns-then-constants-eq1 c =
+pub returns-in-Some : goal.returns-in-Some
+returns-in-Some c =
     let k = c.args.constants in
-    let D = k.d.value in
-    let R = k.r.value in
+    let D = k.of.d in
+    let R = k.of.r in
     let K = cube_of c.args.key in
-    let s = cube_of c.xor-s.result in
-    let e : c.loop-i.i ≡ R / 2 = omega arith in
-    slice_turn K _ c.turned-turned_key.ensures D R k.words.now k.lower k.upper (2 * (R / 2)) (omega arith) _ _ s (omega arith)
-    (c.loop-i.invariant ∙ ap (λ n. rounds K D R (2 * (2 * n)) s) e) c.slice_round-s-then-constants-eq1.ensures
-    ∙ ap₂ (rounds K D R) (omega arith) c.xor-s.ensures
-
-pub returns-else-constants-eq1 : goal.returns-else-constants-eq1
-returns-else-constants-eq1 c =
-    let k = c.args.constants in
-    c.loop-i.invariant ∙ ap₂ (rounds (cube_of c.args.key) k.d.value k.r.value) (omega arith) c.xor-s.ensures
+    let i = c.loop-slice.slice-index in
+    let f = c.as_chunks.ensures in
+    let l = c.in-Some.ensures.item in
+    turn K D R _ k.scheduled (2 * i) (omega (arith, f.front_len, f.back_len, k.scheduled.whole, l.3.0)) (slices K D R (2 * i) (omega arith)) _ _ (l.4 (omega arith) 0 ∙ left_over _ _ f.back (2 * i) (omega (arith, f.front_len, k.scheduled.whole)))
+    c.rotated-turned_key.ensures _ _ _ c.loop-slice.invariant c.super_round-s-in-Some.ensures
+    ∙ ap₂ (rounds K D R) (omega arith) c.bitxor-s.ensures

@@ -1,18 +1,13 @@
-use Rattle.std.proofs.Common.{◌≡◌, ◌-◌, ◌≤◌, refl, ◌∙◌, arith}
-use Rattle.std.proofs.lemmas.Bool.{lt-ltb, le-ltb}
+use Rattle.std.proofs.Common.{◌-◌, arith}
 use Rattle.saturnin.specs.Rounds.{clock, clocked}
-use Rattle.saturnin_words.proofs.Schedules.{from-table, count}
+use Rattle.saturnin_words.specs.declared.tables.TheConstants.{OF_TEN, OF_SIXTEEN}
+use Rattle.saturnin_words.proofs.Schedules.{from_row}
 use Rattle.saturnin_words.proofs.tables.mode_words.Goals as goal
-use Rattle.saturnin_words.proofs.tables.mode_words.Goals.{then-d-le6, else-d-le6}
 
-pub returns : goal.returns
+pub returns-in-1-to-6-eq10 : goal.returns-in-1-to-6-eq10
 unfolding clock clocked
-returns c =
-    let D = c.args.d.value in
-    let R = c.args.r.value in
-    let r : R ≡ count (D - 1) = c.if-r-count.false ∙ elim c.if-d-le6.branch [
-      | then-d-le6 w ↦ w.count-is ∙ rw (lt-ltb (D - 1) 6 (omega (arith, w.if-d-le6.true)))
-      | else-d-le6 w ↦ w.count-is ∙ rw (le-ltb (D - 1) 6 (omega (arith, w.if-d-le6.false)))
-    ] in
-    let few : R ≤ 16 = elim c.if-d-le6.branch [ then-d-le6 w ↦ omega (arith, w.count-is) | else-d-le6 w ↦ omega (arith, w.count-is) ] in
-    from-table _ refl tt D R _ _ (omega arith) (omega arith) r few refl (omega arith)
+returns-in-1-to-6-eq10 c = from_row OF_TEN 1 10 6 tt _ _ (c.args.of.d - 1) (omega arith) (omega arith) (omega arith)
+
+pub returns-in-7-to-8-eq16 : goal.returns-in-7-to-8-eq16
+unfolding clock clocked
+returns-in-7-to-8-eq16 c = from_row OF_SIXTEEN 7 16 2 tt _ _ (c.args.of.d - 7) (omega arith) (omega arith) (omega arith)

@@ -7,8 +7,8 @@ use Rattle.saturnin_words.proofs.state.State.columns.Goals as goal
 
 pub returns : goal.returns
 returns c =
-    mixed _ c.args.self (quad c.xor-even.result) (quad c.xor-odd.result)
-    c.xor-even.ensures
-    (λ p h. c.xor-odd.ensures p ∙ ap₂ bit_xor (c.alpha.ensures p) (c.swapped.ensures p h))
-    (λ p. c.xor-even-2.ensures p ∙ ap (λ v. bit_xor v (quad c.xor-odd.result p)) (c.alpha-3.ensures p ∙ ap α (c.alpha-2.ensures p)))
-    (λ p h. c.xor-odd-2.ensures p ∙ ap (bit_xor (quad c.xor-odd.result p)) (c.swapped-2.ensures p h))
+    mixed _ c.args.self (quad c.bitxor-even.result) (quad c.bitxor-odd.result)
+    c.bitxor-even.ensures
+    (λ p h. c.bitxor-odd.ensures p ∙ ap₂ bit_xor (c.alpha.ensures p) (c.swapped.ensures p h))
+    (λ p. c.bitxor-even-2.ensures p ∙ ap (λ v. bit_xor v (quad c.bitxor-odd.result p)) (c.alpha-3.ensures p ∙ ap α (c.alpha-2.ensures p)))
+    (λ p h. c.bitxor-odd-2.ensures p ∙ ap (bit_xor (quad c.bitxor-odd.result p)) (c.swapped-2.ensures p h))

@@ -7,8 +7,8 @@ use Rattle.saturnin_words.proofs.state.State.columns_back.Goals as goal
 
 pub returns : goal.returns
 returns c =
-    unmixed _ c.args.self (quad c.xor-odd.result) (quad c.alpha_back-even.result)
-    (λ p h. c.xor-odd.ensures p ∙ ap (bit_xor (quad c.args.self.odd p)) (c.swapped.ensures p h))
-    (λ p. c.alpha_back-even.ensures p ∙ ap α⁻¹ (c.alpha_back.ensures p ∙ ap α⁻¹ (c.xor.ensures p)))
-    (λ p h. c.alpha_back-odd.ensures p ∙ ap α⁻¹ (c.xor-2.ensures p ∙ ap (bit_xor (quad c.xor-odd.result p)) (c.swapped-2.ensures p h)))
-    c.xor-3.ensures
+    unmixed _ c.args.self (quad c.bitxor-odd.result) (quad c.alpha_back-even.result)
+    (λ p h. c.bitxor-odd.ensures p ∙ ap (bit_xor (quad c.args.self.odd p)) (c.swapped.ensures p h))
+    (λ p. c.alpha_back-even.ensures p ∙ ap α⁻¹ (c.alpha_back.ensures p ∙ ap α⁻¹ (c.bitxor.ensures p)))
+    (λ p h. c.alpha_back-odd.ensures p ∙ ap α⁻¹ (c.bitxor-2.ensures p ∙ ap (bit_xor (quad c.bitxor-odd.result p)) (c.swapped-2.ensures p h)))
+    c.bitxor-3.ensures

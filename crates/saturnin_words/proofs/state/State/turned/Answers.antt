@@ -1,14 +1,11 @@
-use Rattle.std.proofs.Common.{◌+◌, ◌%◌}
-use Rattle.saturnin.specs.Rounds.{rotated}
-use Rattle.saturnin_words.specs.Words.{in_word, in_key}
-use Rattle.saturnin_words.proofs.Places.{across_moves, moved}
+use Rattle.saturnin_words.specs.Words.{in_word}
+use Rattle.saturnin_words.proofs.Places.{each_moves, rows_turned}
 use Rattle.saturnin_words.proofs.state.State.turned.Goals as goal
 
 pub returns : goal.returns
-unfolding rotated
-returns c =
-    let x = c.args.self.even in
-    let y = c.args.self.odd in
-    moved (in_word in_key 0 0) (in_word in_key 0 0) (λ i. (i + 20) % 64) tt _ c.args.self
-    (λ p h. across_moves x.a x.b x.c x.d _ _ _ _ p (in_word in_key 0 0 p) (c.key_turned.ensures p h) (c.key_turned-2.ensures p h) (c.key_turned-3.ensures p h) (c.key_turned-4.ensures p h))
-    (λ p h. across_moves y.a y.b y.c y.d _ _ _ _ p (in_word in_key 0 0 p) (c.key_turned-5.ensures p h) (c.key_turned-6.ensures p h) (c.key_turned-7.ensures p h) (c.key_turned-8.ensures p h))
+returns g c =
+    let e = c.each.ensures in
+    let o = c.each-2.ensures in
+    let w = g.row.WIDTH in
+    rows_turned _ c.args.self w g.row.Y0 g.row.Y1 g.row.Y2 g.row.Y3 c.requires.width
+    (each_moves _ _ (in_word w g.row.Y0 g.row.Y2) e.a e.b e.c e.d) (each_moves _ _ (in_word w g.row.Y1 g.row.Y3) o.a o.b o.c o.d)
