@@ -1,5 +1,5 @@
 -- A record that is opened, by what the opening of its parts answered.
-use Rattle.std.proofs.Common.{◌≡◌, ℕ, ◌+◌, ◌-◌, ◌≤◌, List, [], ◌∷◌, ◌++◌, length, take, drop, None, Ok, Err, Result, sym, ap, ◌∙◌, ap₂, arith}
+use Rattle.std.proofs.Common.{◌≡◌, ℕ, ◌+◌, ◌-◌, List, [], ◌∷◌, ◌++◌, length, take, drop, None, Ok, Err, Result, sym, ap, ◌∙◌, ap₂, arith}
 use mathlib.Core.Path.{transport}
 use Rattle.std.proofs.lemmas.List.{length-take, length-drop, length-append, take_all}
 use Rattle.faults.specs.Causes.{from_mode}
@@ -18,7 +18,7 @@ use Rattle.modes.specs.Cascade.{ctr, left, Opens}
 use Rattle.modes.proofs.Exactly.{never_both}
 use Rattle.sheets.specs.Records.{empty}
 use Rattle.sheets.specs.Sheets.{associated, nonce_in, head_in, length_in, text_in, tag_in, WellFormed}
-use Rattle.sealing.specs.Sealing.{right_tag, form_table, open_sheet_table, opened}
+use Rattle.sealing.specs.Sealing.{right_tag, form_table, open_sheet_table, message_in}
 
 -- a refusal by the first rows of a table is one by the whole table
 by_front : {Cause : Type 0} {P Q : Cause → Type 0} (D : Type 0) (rows more : Table Cause) → ((c : Cause) → P c → Q c) → By rows P ⊥ → By (rows ++ more) Q D
@@ -71,20 +71,16 @@ module _ (f : BlockFunction) (key : List ℕ) (place : ℕ) (bytes : List ℕ) (
       ),
     )
 
-    pub open_done : (bytes' : List ℕ) → answer ≡ Ok tt → (64 + length out' ≤ length bytes → bytes' ≡ written 64 out' bytes) → length out' ≡ n
+    pub open_done : (message : List ℕ) → answer ≡ Ok tt → message ≡ out'
         → By (open_sheet_table f key place bytes) (λ cause. ◌≡◌ {A = Result ℕ BoxFault} (Ok n) (Err (record { cause = cause; place = None })))
-        ((◌≡◌ {A = Result ℕ BoxFault} (Ok n) (Ok (length_in bytes))) × (bytes' ≡ opened f key bytes))
-    open_done bytes' a w l = (
+        ((◌≡◌ {A = Result ℕ BoxFault} (Ok n) (Ok (length_in bytes))) × (message ≡ message_in f key bytes))
+    open_done message a m = (
       λ h. absurd (there h),
       λ h. (
         λ k. absurd (k formed),
         λ k. (
           λ differs. absurd (never_both tt (record { cause = Tag }) (sym a ∙ (rest.0 differs).0)),
-          λ right. (
-            ap Ok is,
-            w (omega (arith, l, long, is, formed.0))
-                ∙ ap₂ (λ t m. take 64 bytes ++ (t ++ drop (64 + m) bytes)) (rest.1 right).1 (l ∙ is),
-          ),
+          λ right. (ap Ok is, m ∙ (rest.1 right).1),
         ),
       ),
     )
@@ -99,13 +95,20 @@ same_error e e' h = cc
 same_length : (m n : ℕ) → ◌≡◌ {A = Result ℕ BoxFault} (Ok m) (Ok n) → m ≡ n
 same_length m n h = cc
 
-pub found : (table : Table BoxCause) (number number' n n' : ℕ) (bytes' after : List ℕ) → number ≡ number'
-    → By table (λ cause. ◌≡◌ {A = Result ℕ BoxFault} (Ok n) (Err (record { cause = cause; place = None }))) ((◌≡◌ {A = Result ℕ BoxFault} (Ok n) (Ok n')) × (bytes' ≡ after))
+pub found : (table : Table BoxCause) (number number' n n' : ℕ) (message text bytes' after : List ℕ) → number ≡ number' → (n ≡ n' → message ≡ text → bytes' ≡ after)
+    → By table (λ cause. ◌≡◌ {A = Result ℕ BoxFault} (Ok n) (Err (record { cause = cause; place = None }))) ((◌≡◌ {A = Result ℕ BoxFault} (Ok n) (Ok n')) × (message ≡ text))
     → By table (λ cause. (◌≡◌ {A = Result Found BoxFault} (Ok (record { number = number; length = n })) (Err (record { cause = cause; place = None }))) × (bytes' ≡ empty))
     ((◌≡◌ {A = Result Found BoxFault} (Ok (record { number = number; length = n })) (Ok (record { number = number'; length = n' }))) × (bytes' ≡ after))
-found table number number' n n' bytes' after e b =
+found table number number' n n' message text bytes' after e w b =
     by_follows table (λ c (r : ◌≡◌ {A = Result ℕ BoxFault} (Ok n) (Err (record { cause = c; place = None }))). absurd (never_err n _ r))
-    (λ (d : (◌≡◌ {A = Result ℕ BoxFault} (Ok n) (Ok n')) × (bytes' ≡ after)). (ap₂ (λ (x y : ℕ). Ok (record { number = x; length = y })) e (same_length n n' d.0), d.1)) b
+    (λ (d : (◌≡◌ {A = Result ℕ BoxFault} (Ok n) (Ok n')) × (message ≡ text)).
+    let l : n ≡ n' = same_length n n' d.0 in (ap₂ (λ (x y : ℕ). Ok (record { number = x; length = y })) e l, w l d.1)) b
+
+-- a message of a known length in its place
+pub in_place : (room bytes : List ℕ) (n n' : ℕ) (text bytes' : List ℕ) → length (take n room) ≡ n → bytes' ≡ written 64 (take n room) bytes → n ≡ n' → take n' room ≡ text
+    → bytes' ≡ take 64 bytes ++ (text ++ drop (64 + n') bytes)
+in_place room bytes n n' text bytes' l w e t =
+    w ∙ ap₂ (λ m k. take 64 bytes ++ (m ++ drop (64 + k) bytes)) (ap (λ k. take k room) e ∙ t) (l ∙ e)
 
 pub wiped : (table : Table BoxCause) (fault : BoxFault) (n' : ℕ) (D D' : Type 0) (bytes' : List ℕ) → bytes' ≡ empty
     → By table (λ cause. ◌≡◌ {A = Result ℕ BoxFault} (Err fault) (Err (record { cause = cause; place = None }))) ((◌≡◌ {A = Result ℕ BoxFault} (Err fault) (Ok n')) × D)

@@ -33,9 +33,12 @@ form_table bytes = (bytes ≡ empty, Empty) ∷ (Not (WellFormed bytes), Filling
 abbrev pub open_sheet_table : BlockFunction → (key : List ℕ) (place : ℕ) (bytes : List ℕ) → Table BoxCause
 open_sheet_table f key place bytes = form_table bytes ++ ((Not (tag_in bytes ≡ right_tag f key place bytes), Mode Tag) ∷ [])
 
--- what an opened record holds: the message in place of its ciphertext
+-- the message of a record, and what an opened record holds: the message in place of its ciphertext
+abbrev pub message_in : BlockFunction → (key bytes : List ℕ) → List ℕ
+message_in f key bytes = ctr f key (nonce_in bytes) (text_in bytes)
+
 abbrev pub opened : BlockFunction → (key bytes : List ℕ) → List ℕ
-opened f key bytes = with_text (ctr f key (nonce_in bytes) (text_in bytes)) bytes
+opened f key bytes = with_text (message_in f key bytes) bytes
 
 abbrev pub OpensSheet : BlockFunction → (key : List ℕ) (place : ℕ) (bytes : List ℕ) → Result Found BoxFault → (bytes' : List ℕ) → Type 0
 OpensSheet f key place bytes answer bytes' =

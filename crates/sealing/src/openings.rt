@@ -1,8 +1,8 @@
-ghost use Rattle.std.specs.Prelude.{◌≡◌, None, Ok, Err, MatchResult};
+ghost use Rattle.std.specs.Prelude.{◌≡◌, ◌≤◌, take, None, Ok, Err, IfOk, MatchResult};
 ghost use Rattle.faults.specs.Tables.{By, Not};
 ghost use Rattle.sheets.specs.Records.{empty, number_in as number_of};
 ghost use Rattle.sheets.specs.Sheets.{length_in as length_of, WellFormed};
-ghost use Rattle.sealing.specs.Sealing.{form_table, open_sheet_table, opened as opened_bytes, OpensSheet};
+ghost use Rattle.sealing.specs.Sealing.{form_table, open_sheet_table, message_in as message_of, OpensSheet};
 
 use crate::found::Found;
 use crate::seals::associated;
@@ -23,7 +23,10 @@ pub fn open_sheet<C: Cipher>(
     let number = number_in(bytes);
     let mut room = [0; 928];
     match opened(cipher, key, place, bytes, &mut room) {
-        Ok(length) => Ok(Found { number, length }),
+        Ok(length) => {
+            octets::paste(bytes, 64, &room[..length]);
+            Ok(Found { number, length })
+        }
         Err(fault) => {
             bytes.fill(0);
             Err(fault)
@@ -31,28 +34,28 @@ pub fn open_sheet<C: Cipher>(
     }
 }
 
-// The same, with room for a message; a refusal leaves the record as it was. It gives the length of the message.
-fn opened<C: Cipher>(
-    cipher: &C,
-    key: &[u8; 32],
+// Opens the message of a record into room for one; it gives the length of the message.
+fn opened<'a, C: Cipher>(
+    cipher: &'a C,
+    key: &'a [u8; 32],
     place: u32,
-    bytes: &mut [u8; 1024],
+    bytes: &'a [u8; 1024],
     room: &mut [u8; 928],
 ) -> Result<usize, BoxFault>
-    ensures { By (open_sheet_table (C.Cipher.forward cipher.now) key.now place bytes.old)
+    ensures few { IfOk result (λ n. n ≤ 928) }
+    ensures opens { By (open_sheet_table (C.Cipher.forward cipher.now) key.now place bytes.now)
         (λ cause. result ≡ Err (record { cause = cause; place = None }))
-        ((result ≡ Ok (length_of bytes.old)) × (bytes.new ≡ opened_bytes (C.Cipher.forward cipher.now) key.now bytes.old)) }
+        ((result ≡ Ok (length_of bytes.now)) × (take (length_of bytes.now) room.new ≡ message_of (C.Cipher.forward cipher.now) key.now bytes.now)) }
 {
     let n = text_length(bytes)?;
+    let data = associated(place, &bytes[16..64]);
     let under = Cascade {
         cipher,
         key,
         nonce: &bytes[..16],
-        associated: &associated(place, &bytes[16..64]),
+        associated: &data,
     };
-    let message = &mut room[..n];
-    under.open(&bytes[64..64 + n], &bytes[992..], message)?;
-    octets::paste(bytes, 64, message);
+    under.open(&bytes[64..64 + n], &bytes[992..], &mut room[..n])?;
     Ok(n)
 }
 
