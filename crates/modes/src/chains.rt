@@ -15,7 +15,7 @@ fn link<C: Cipher>(cipher: &C, by: Parameters, t: &[u8; 32], a: &[u8; 32]) -> [u
     xor(a, &cipher.encrypt_block(t, by, a))
 }
 
-// What a chain takes: full blocks by one separator, and the tail at its end by another.
+// What a chain takes: blocks by one separator, and the tail at its end by another.
 pub trait Part {
     ghost of_blocks: { ℕ };
 
@@ -98,7 +98,7 @@ impl<'a, C: Cipher, P: Part> Chain<'a, C, P> {
         }
     }
 
-    pub fn block(&mut self, bytes: &[u8]) -> Result<(), ModeFault>
+    fn block(&mut self, bytes: &[u8]) -> Result<(), ModeFault>
         ensures cipher { self.new.cipher.now ≡ self.old.cipher.now }
         ensures value { TakesBlock (C.Cipher.forward self.old.cipher.now) P.of_blocks P.rounds bytes.now self.old.value result self.new.value }
         ensures tail { self.new.tail ≡ self.old.tail }
@@ -110,7 +110,7 @@ impl<'a, C: Cipher, P: Part> Chain<'a, C, P> {
         Ok(())
     }
 
-    pub fn tail(&mut self, bytes: &[u8]) -> Result<(), ModeFault>
+    fn tail(&mut self, bytes: &[u8]) -> Result<(), ModeFault>
         ensures cipher { self.new.cipher.now ≡ self.old.cipher.now }
         ensures value { self.new.value ≡ self.old.value }
         ensures tail { TakesTail bytes.now self.old.tail result self.new.tail }
@@ -143,6 +143,7 @@ impl<'a, C: Cipher, P: Part> Chain<'a, C, P> {
     }
 }
 
+// The calls on data and on ciphertext have names of their own, so that data for a text chain does not compile.
 impl<'a, C: Cipher> Chain<'a, C, Data> {
     pub fn start(cipher: &'a C, key: &[u8; 32], counter: &CounterBlock) -> DataChain<'a, C>
         ensures cipher { result.cipher.now ≡ cipher.now }
@@ -155,6 +156,22 @@ impl<'a, C: Cipher> Chain<'a, C, Data> {
         )
     }
 
+    pub fn data_block(&mut self, bytes: &[u8]) -> Result<(), ModeFault>
+        ensures cipher { self.new.cipher.now ≡ self.old.cipher.now }
+        ensures value { TakesBlock (C.Cipher.forward self.old.cipher.now) 2 10 bytes.now self.old.value result self.new.value }
+        ensures tail { self.new.tail ≡ self.old.tail }
+    {
+        self.block(bytes)
+    }
+
+    pub fn data_tail(&mut self, bytes: &[u8]) -> Result<(), ModeFault>
+        ensures cipher { self.new.cipher.now ≡ self.old.cipher.now }
+        ensures value { self.new.value ≡ self.old.value }
+        ensures tail { TakesTail bytes.now self.old.tail result self.new.tail }
+    {
+        self.tail(bytes)
+    }
+
     pub fn close(self) -> TextChain<'a, C>
         ensures cipher { result.cipher.now ≡ self.entry.cipher.now }
         ensures value { result.value ≡ linked (C.Cipher.forward self.entry.cipher.now) 3 10 self.entry.value self.entry.tail }
@@ -165,6 +182,22 @@ impl<'a, C: Cipher> Chain<'a, C, Data> {
 }
 
 impl<C: Cipher> Chain<'_, C, Text> {
+    pub fn text_block(&mut self, bytes: &[u8]) -> Result<(), ModeFault>
+        ensures cipher { self.new.cipher.now ≡ self.old.cipher.now }
+        ensures value { TakesBlock (C.Cipher.forward self.old.cipher.now) 4 10 bytes.now self.old.value result self.new.value }
+        ensures tail { self.new.tail ≡ self.old.tail }
+    {
+        self.block(bytes)
+    }
+
+    pub fn text_tail(&mut self, bytes: &[u8]) -> Result<(), ModeFault>
+        ensures cipher { self.new.cipher.now ≡ self.old.cipher.now }
+        ensures value { self.new.value ≡ self.old.value }
+        ensures tail { TakesTail bytes.now self.old.tail result self.new.tail }
+    {
+        self.tail(bytes)
+    }
+
     // The tag.
     pub fn close(self) -> [u8; 32]
         ensures { result ≡ linked (C.Cipher.forward self.entry.cipher.now) 5 10 self.entry.value self.entry.tail }

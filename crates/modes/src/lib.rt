@@ -8,7 +8,7 @@ mod hashes;
 mod shorts;
 
 pub use cascade::Cascade;
-pub use chains::{Chain, Data, DataChain, Part, Text, TextChain};
+pub use chains::{DataChain, TextChain};
 pub use counters::CounterBlock;
 pub use hashes::hash;
 pub use shorts::{open_short, seal_short};
