@@ -1,4 +1,4 @@
-use Rattle.std.proofs.Common.{◌≡◌, length, replicate, sym, ap, ◌∙◌, arith}
+use Rattle.std.proofs.Common.{◌≡◌, ℕ, List, length, replicate, sym, ap, ◌∙◌, arith}
 use Rattle.octets.specs.Octets.{written}
 use Rattle.octets.proofs.Writes.{two_parts, length-written}
 use Rattle.modes.specs.Bytes.{padded}
