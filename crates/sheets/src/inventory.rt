@@ -10,13 +10,9 @@ use std::alloc::{AllocError, Global};
 pub fn open_places<S: Shelf>(shelf: &S) -> u32
     ensures { result ≡ open_of (S.Shelf.meaning shelf.now) (S.Shelf.meaning shelf.now).count }
 {
-    let mut open = 0;
-    for place in 0..shelf.count() {
-        if shelf.is_open(place) {
-            open += 1;
-        }
-    }
-    open
+    (0..shelf.count())
+        .filter(|place| shelf.is_open(*place))
+        .count() as u32
 }
 
 // The places of a shelf that hold a record, in order.

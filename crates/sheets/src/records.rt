@@ -5,7 +5,5 @@ ghost use Rattle.sheets.specs.Records.{number_in as number_of};
 pub fn number_in(bytes: &[u8; 1024]) -> u64
     ensures { result ≡ number_of bytes.now }
 {
-    let mut number = [0; 8];
-    number.copy_from_slice(&bytes[8..16]);
-    u64::from_be_bytes(number)
+    u64::from_be_bytes(*bytes[8..16].as_array().unwrap())
 }

@@ -1,18 +1,15 @@
-use Rattle.std.proofs.Common.{◌≡◌, suc, ◌+◌, sym, ap, add-one, arith}
+use Rattle.std.proofs.Common.{refl, ap, ◌∙◌, rules, arith}
+use Rattle.std.proofs.lemmas.Iterator.{YieldsList-from_range}
+use Rattle.std.proofs.lemmas.Iterator.Consumers.{YieldsList-from_filter, count_from_yields_List}
+use borrow.Author.Tests.{tests}
+use Rattle.shelf.proofs.Counts.{counted}
 use Rattle.sheets.specs.Inventory.{open_places}
-use Rattle.sheets.proofs.Counting.{open_more, open_less, open_within}
 use Rattle.sheets.proofs.inventory.open_places.Goals as goal
-use Rattle.sheets.proofs.inventory.open_places.Goals.{then-is_open, else-is_open}
 
-pub overflow_add-open : goal.overflow_add-open
-overflow_add-open g c = omega (arith, open_within (g.S.Shelf.meaning c.args.shelf.now) c.loop-place.place)
-
-pub loop-place-preserved : goal.loop-place-preserved
-loop-place-preserved g c =
+pub returns : goal.returns
+returns g c =
     let m = g.S.Shelf.meaning c.args.shelf.now in
-    let p = c.loop-place.place in
-    let next : open_places m (p + 1) ≡ open_places m (suc p) = ap (open_places m) (add-one p) in
-    elim c.if-is_open.branch [
-      | then-is_open w ↦ omega (arith, w.open-is, next, open_more m p (sym w.if-is_open.ensures))
-      | else-is_open w ↦ omega (arith, w.open-is, next, open_less m p (sym w.if-is_open.ensures))
-    ]
+    let n = c.count.result in
+    count_from_yields_List _ _ c.count-2.ensures.ran (YieldsList-from_filter _ m.opens (YieldsList-from_range 0 n n c.filter.ensures.source (omega arith)) c.filter.ensures.closure (λ x r q k. search (rules, tests)))
+    ∙ counted m.opens (open_places m) refl (λ p. refl) n
+    ∙ ap (open_places m) c.count.ensures
