@@ -24,9 +24,6 @@ pub loop-b-init : goal.loop-b-init
 unfolding number
 loop-b-init c = (refl, omega arith, omega arith)
 
-pub overflow_add-x : goal.overflow_add-x
-overflow_add-x c = record { fits = (more c).2 }
-
 pub loop-b-preserved : goal.loop-b-preserved
 loop-b-preserved c = more c
 
