@@ -42,9 +42,9 @@ impl Move {
 
 impl Cube {
     // Row b after a move.
-    fn moved_row(self, by: Move, b: usize) -> Row
+    fn moved_row(&self, by: Move, b: usize) -> Row
         requires { b < 16 }
-        ensures { (y : ℕ) → y < 4 → of_row result y ≡ at (nibbles self) (source_of by (4 * b + y)) }
+        ensures { (y : ℕ) → y < 4 → of_row result y ≡ at (nibbles self.now) (source_of by (4 * b + y)) }
     {
         Row {
             nibbles: array::from_fn(|y| self.row(by.source(b, y)).nibble(y)),

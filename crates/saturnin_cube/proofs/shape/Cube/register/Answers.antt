@@ -14,7 +14,7 @@ loop-b-init c = (refl, omega arith, omega arith)
 
 pub loop-b-preserved : goal.loop-b-preserved
 loop-b-preserved c =
-    let s = c.args.self in
+    let s = c.args.self.now in
     let g = c.args.g in
     let b = c.loop-b.b in
     let lt = c.loop-b-test.true in
@@ -25,4 +25,4 @@ loop-b-preserved c =
 
 pub returns : goal.returns
 unfolding cube_register
-returns c = c.loop-b.invariant.0 ∙ ap (number (bit_in (nibbles c.args.self) c.args.g)) (omega arith)
+returns c = c.loop-b.invariant.0 ∙ ap (number (bit_in (nibbles c.args.self.now) c.args.g)) (omega arith)
