@@ -6,13 +6,13 @@ use Rattle.saturnin_cube.specs.declared.shape.Row.{Row}
 use Rattle.saturnin_cube.specs.declared.shape.Cube.{Cube}
 
 -- nibble y of a row
-abbrev pub nibble_of : Row → ℕ → ℕ
-nibble_of r y = at (map (λ (n : Nibble). n.value) r.nibbles) y
+abbrev pub of_row : Row → ℕ → ℕ
+of_row r y = at (map (λ (n : Nibble). n.value) r.nibbles) y
 
 -- nibble y of row b
 abbrev pub nibble_at : List Row → (b y : ℕ) → ℕ
 nibble_at [] b y = 0
-nibble_at (r ∷ rs) zero y = nibble_of r y
+nibble_at (r ∷ rs) zero y = of_row r y
 nibble_at (r ∷ rs) (suc b) y = nibble_at rs b y
 
 unfoldable pub nibbles : Cube → List ℕ

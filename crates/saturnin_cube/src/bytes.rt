@@ -1,6 +1,6 @@
 ghost use Rattle.std.specs.Prelude.{◌≡◌, ℕ, ◌<◌, length};
 ghost use Rattle.saturnin.specs.Cube.{table, register, to_cube, cube_register, from_cube};
-ghost use Rattle.saturnin_cube.specs.Nibbles.{nibble_of, nibbles};
+ghost use Rattle.saturnin_cube.specs.Nibbles.{of_row, nibbles};
 ghost use Rattle.saturnin_cube.specs.Parts.{nibble_in};
 
 use crate::nibble::{Nibble, bit};
@@ -24,9 +24,9 @@ impl Registers {
     }
 
     // Nibble y of row b.
-    fn nibble(self, b: usize, y: usize) -> Nibble
+    fn nibble(&self, b: usize, y: usize) -> Nibble
         requires { (b < 16) × (y < 4) }
-        ensures { result.value ≡ nibble_in self.all b y }
+        ensures { result.value ≡ nibble_in self.now.all b y }
     {
         Nibble::of_bits(
             bit(self.all[4 * y], b),
@@ -36,9 +36,9 @@ impl Registers {
         )
     }
 
-    fn row(self, b: usize) -> Row
+    fn row(&self, b: usize) -> Row
         requires { b < 16 }
-        ensures { (y : ℕ) → y < 4 → nibble_of result y ≡ nibble_in self.all b y }
+        ensures { (y : ℕ) → y < 4 → of_row result y ≡ nibble_in self.now.all b y }
     {
         Row {
             nibbles: array::from_fn(|y| self.nibble(b, y)),
@@ -57,9 +57,9 @@ impl Cube {
     }
 
     // Register g, back from the cube.
-    fn register(self, g: usize) -> u16
+    fn register(&self, g: usize) -> u16
         requires { g < 16 }
-        ensures { result ≡ cube_register (nibbles self) g }
+        ensures { result ≡ cube_register (nibbles self.now) g }
     {
         let mut x = 0u16;
         for (b, row) in self.rows.iter().enumerate() {

@@ -1,14 +1,14 @@
 ghost use Rattle.std.specs.Prelude.{◌≡◌, ℕ, ◌<◌};
 ghost use Rattle.saturnin.specs.Layers.{M_row, MC};
 ghost use Rattle.saturnin.specs.Back.{M⁻¹_row, MC⁻¹};
-ghost use Rattle.saturnin_cube.specs.Nibbles.{nibble_of, nibbles};
+ghost use Rattle.saturnin_cube.specs.Nibbles.{of_row, nibbles};
 
 use crate::shape::{Cube, Row};
 
 impl Row {
     // M, as a network of sums and alphas.
     fn mixed(self) -> Row
-        ensures { (y : ℕ) → y < 4 → nibble_of result y ≡ M_row y (nibble_of self 0) (nibble_of self 1) (nibble_of self 2) (nibble_of self 3) }
+        ensures { (y : ℕ) → y < 4 → of_row result y ≡ M_row y (of_row self 0) (of_row self 1) (of_row self 2) (of_row self 3) }
     {
         let [a, b, c, d] = self.nibbles;
         let a = a ^ b;
@@ -24,7 +24,7 @@ impl Row {
 
     // The same network from its end to its start.
     fn mixed_back(self) -> Row
-        ensures { (y : ℕ) → y < 4 → nibble_of result y ≡ M⁻¹_row y (nibble_of self 0) (nibble_of self 1) (nibble_of self 2) (nibble_of self 3) }
+        ensures { (y : ℕ) → y < 4 → of_row result y ≡ M⁻¹_row y (of_row self 0) (of_row self 1) (of_row self 2) (of_row self 3) }
     {
         let [a, b, c, d] = self.nibbles;
         let d = d ^ a;

@@ -1,6 +1,6 @@
 ghost use Rattle.std.specs.Prelude.{◌≡◌, ℕ, ◌+◌, ◌*◌, ◌<◌};
 ghost use Rattle.saturnin.specs.Cube.{at};
-ghost use Rattle.saturnin_cube.specs.Nibbles.{nibble_of, nibbles};
+ghost use Rattle.saturnin_cube.specs.Nibbles.{of_row, nibbles};
 
 use crate::nibble::Nibble;
 use crate::shape::{Cube, Row};
@@ -8,16 +8,16 @@ use crate::shape::{Cube, Row};
 impl Row {
     pub(crate) fn nibble(self, y: usize) -> Nibble
         requires { y < 4 }
-        ensures { result.value ≡ nibble_of self y }
+        ensures { result.value ≡ of_row self y }
     {
         self.nibbles[y]
     }
 }
 
 impl Cube {
-    pub(crate) fn row(self, b: usize) -> Row
+    pub(crate) fn row(&self, b: usize) -> Row
         requires { b < 16 }
-        ensures { (y : ℕ) → y < 4 → nibble_of result y ≡ at (nibbles self) (4 * b + y) }
+        ensures { (y : ℕ) → y < 4 → of_row result y ≡ at (nibbles self.now) (4 * b + y) }
     {
         self.rows[b]
     }

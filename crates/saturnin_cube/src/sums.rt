@@ -3,7 +3,7 @@ ghost use Rattle.saturnin.specs.Bits.{bit as bit_of};
 ghost use Rattle.saturnin.specs.Cube.{at};
 ghost use Rattle.saturnin.specs.Layers.{add};
 ghost use Rattle.saturnin.specs.Rounds.{constants as constants_of};
-ghost use Rattle.saturnin_cube.specs.Nibbles.{nibble_of, nibbles};
+ghost use Rattle.saturnin_cube.specs.Nibbles.{of_row, nibbles};
 
 use crate::nibble::bit;
 use crate::shape::{Cube, Row};
@@ -12,7 +12,7 @@ use std::array;
 
 impl Row {
     fn plus(self, other: Row) -> Row
-        ensures { (y : ℕ) → y < 4 → nibble_of result y ≡ bit_xor (nibble_of self y) (nibble_of other y) }
+        ensures { (y : ℕ) → y < 4 → of_row result y ≡ bit_xor (of_row self y) (of_row other y) }
     {
         Row {
             nibbles: array::from_fn(|y| self.nibble(y) ^ other.nibble(y)),
@@ -22,7 +22,7 @@ impl Row {
     // Row b of the cube of two round constants.
     fn constants(c: RoundConstants, b: usize) -> Row
         requires { b < 16 }
-        ensures { (y : ℕ) → y < 4 → nibble_of result y ≡ at (bit_of c.rc0 b ∷ 0 ∷ bit_of c.rc1 b ∷ 0 ∷ []) y }
+        ensures { (y : ℕ) → y < 4 → of_row result y ≡ at (bit_of c.rc0 b ∷ 0 ∷ bit_of c.rc1 b ∷ 0 ∷ []) y }
     {
         Row {
             nibbles: [bit(c.rc0, b).into(), false.into(), bit(c.rc1, b).into(), false.into()],

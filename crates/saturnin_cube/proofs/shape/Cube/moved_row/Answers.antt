@@ -7,5 +7,5 @@ use Rattle.saturnin_cube.proofs.shape.Cube.moved_row.Goals as goal
 
 pub returns : goal.returns
 returns c =
-    made_row _ _ (λ y. at (nibbles c.args.self) (source_of c.args.by (4 * c.args.b + y))) _
+    made_row _ _ (λ y. at (nibbles c.args.self.now) (source_of c.args.by (4 * c.args.b + y))) _
     (λ y n q lt called. (search rules, search rules)) c.from_fn.ensures.items

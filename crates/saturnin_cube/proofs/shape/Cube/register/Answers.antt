@@ -8,10 +8,13 @@ use Rattle.saturnin_cube.proofs.Nibbles.{row_is}
 use Rattle.saturnin_cube.proofs.Loads.{Has_bits, bit_in, bit_more}
 use Rattle.saturnin_cube.proofs.shape.Cube.register.Goals as goal
 
-more : (c : goal.After-bit)
-    → Has_bits (bit_in (nibbles c.args.self) c.args.g) (c.loop-b.b + 1) (c.loop-b.x + from_bool c.bit.result * 2 ^ c.loop-b.b % 2 ^ 16)
-more c =
-    let s = c.args.self in
+pub loop-b-init : goal.loop-b-init
+unfolding number
+loop-b-init c = (refl, omega arith, omega arith)
+
+pub loop-b-preserved : goal.loop-b-preserved
+loop-b-preserved c =
+    let s = c.args.self.now in
     let g = c.args.g in
     let b = c.loop-b.b in
     let lt = c.loop-b-test.true in
@@ -20,16 +23,6 @@ more c =
     ∙ ap (λ v. bit v (g % 4)) (c.nibble.ensures ∙ row_is s b _ lt (g / 4) (omega arith) ∙ ap (at (nibbles s)) (add_comm (4 * b) (g / 4))))
     (flag_lt c.bit.result)
 
-pub loop-b-init : goal.loop-b-init
-unfolding number
-loop-b-init c = (refl, omega arith, omega arith)
-
-pub overflow_add-x : goal.overflow_add-x
-overflow_add-x c = record { fits = (more c).2 }
-
-pub loop-b-preserved : goal.loop-b-preserved
-loop-b-preserved c = more c
-
 pub returns : goal.returns
 unfolding cube_register
-returns c = c.loop-b.invariant.0 ∙ ap (number (bit_in (nibbles c.args.self) c.args.g)) (omega arith)
+returns c = c.loop-b.invariant.0 ∙ ap (number (bit_in (nibbles c.args.self.now) c.args.g)) (omega arith)
