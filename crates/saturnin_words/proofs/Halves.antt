@@ -18,10 +18,10 @@ low_bit x b h = sym (bit_mod x 16 b h)
 pub high_bit : (x b : ℕ) → bit x (b + 16) ≡ bit (x / 65536) b
 high_bit x b = ap (bit x) (add_comm b 16) ∙ sym (bit_shr x 16 b)
 
-pub with_constants : (r w : State) (x : ℕ) → ((p : ℕ) → quad r.even p ≡ bit_xor (quad w.even p) (bit x p))
+pub constants_added : (r w : State) (x : ℕ) → ((p : ℕ) → quad r.even p ≡ bit_xor (quad w.even p) (bit x p))
     → ((p : ℕ) → quad r.odd p ≡ quad w.odd p) → cube_of r ≡ add (constants (x % 65536) (x / 65536)) (cube_of w)
 unfolding add constants
-with_constants r w x e o =
+constants_added r w x e o =
     by_rows r F
     (λ b h. e b ∙ ap₂ bit_xor (sym (at_place w (4 * b + 0) 0 b (omega arith) (omega arith) (omega arith))) (low_bit x b h))
     (λ b h. o b ∙ sym (at_place w (4 * b + 1) 1 b (omega arith) (omega arith) (omega arith)) ∙ sym (xor_zero_r _))

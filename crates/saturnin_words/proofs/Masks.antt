@@ -8,33 +8,28 @@ use Rattle.saturnin_words.specs.Words.{in_word}
 use Rattle.saturnin.proofs.Bits.{both, both_left, both_right, below, at_below, same_on_bits, bit-bit_and, bit-bit_or, bit_shr, bit_shl, bit_shl_low, bit_mod, bit_lt, and_one}
 
 pub data Sel : Type 0 where
-  keep : ℕ → Sel
   left : ℕ → ℕ → Sel
   right : ℕ → ℕ → Sel
   or : Sel → Sel → Sel
 
 abbrev pub word : Sel → ℕ → ℕ
-word (keep m) x = bit_and x m
 word (left m k) x = bit_and x m * 2 ^ k % 2 ^ 32
 word (right m k) x = bit_and x m / 2 ^ k
 word (or e f) x = bit_or (word e x) (word f x)
 
 -- 1 where bit p comes from some bit of x
 abbrev pub picks : Sel → ℕ → ℕ
-picks (keep m) p = bit m p
 picks (left m k) p = cond (leb k p) (bit m (p - k)) 0
 picks (right m k) p = bit m (k + p)
 picks (or e f) p = bit_or (picks e p) (picks f p)
 
 -- bit p comes from no bit of x but t
 abbrev pub only : Sel → ℕ → ℕ → Bool
-only (keep m) p t = cond (eqb (bit m p) 0) true (eqb p t)
 only (left m k) p t = cond (leb k p) (cond (eqb (bit m (p - k)) 0) true (eqb (p - k) t)) true
 only (right m k) p t = cond (eqb (bit m (k + p)) 0) true (eqb (k + p) t)
 only (or e f) p t = both (only e p t) (only f p t)
 
 pub picks_lt : (e : Sel) (p : ℕ) → picks e p < 2
-picks_lt (keep m) p = bit_lt m p
 picks_lt (left m k) p = elim (leb k p) as (λ v. cond v (bit m (p - k)) 0 < 2) [ true ↦ bit_lt m (p - k) | false ↦ lit< tt ]
 picks_lt (right m k) p = bit_lt m (k + p)
 picks_lt (or e f) p =
@@ -54,7 +49,6 @@ spread v a b hv ha hb =
     same_on_bits (λ v a b w. bit_or (bit_and v a) (bit_and v b)) (λ v a b w. bit_and v (bit_or a b)) tt v a b 0 hv ha hb (lit< tt)
 
 pub picked : (e : Sel) (x p t : ℕ) → p < 32 → T (only e p t) → bit (word e x) p ≡ bit_and (bit x t) (picks e p)
-picked (keep m) x p t l h = bit-bit_and x m p ∙ part x p t (bit m p) h
 picked (left m k) x p t l h =
     bit_mod (bit_and x m * 2 ^ k) 32 p l ∙
     elim (cases_Bool (leb k p)) [

@@ -81,6 +81,7 @@ impl State {
         }
     }
 
+    // The rotated key: every row turns by five places down, or eleven up.
     pub(crate) fn rotated(self) -> State
         ensures { cube_of result ≡ rotated (cube_of self) }
     {
@@ -88,7 +89,7 @@ impl State {
     }
 
     // Both constants in one word: RC0 goes to register 0 and RC1 to register 8, which share word 0.
-    pub(crate) fn with_constants(self, word: u32) -> State
+    pub(crate) fn add_constants(self, word: u32) -> State
         ensures { cube_of result ≡ add (constants (word % 65536) (word / 65536)) (cube_of self) }
     {
         State {
@@ -105,13 +106,13 @@ impl State {
     {
         let s = self.s_boxes().columns().s_boxes();
         let s = T::back(T::there(s).columns());
-        s.with_constants(word) ^ key
+        s.add_constants(word) ^ key
     }
 
     pub(crate) fn super_round_back<T: Shift>(self, key: State, word: u32) -> State
         ensures { cube_of result ≡ super_round⁻¹ T.there T.back (cube_of key) (word % 65536) (word / 65536) (cube_of self) }
     {
-        let s = self.with_constants(word) ^ key;
+        let s = self.add_constants(word) ^ key;
         let s = T::back(T::there(s).columns_back());
         s.s_boxes_back().columns_back().s_boxes_back()
     }
