@@ -48,7 +48,12 @@ impl Row {
     {
         let [a, b, c, d] = self.nibbles;
         Row {
-            nibbles: [a.through(even), b.through(odd), c.through(even), d.through(odd)],
+            nibbles: [
+                a.through(even),
+                b.through(odd),
+                c.through(even),
+                d.through(odd),
+            ],
         }
     }
 }
