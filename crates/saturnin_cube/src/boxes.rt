@@ -58,6 +58,7 @@ impl Row {
     }
 }
 
+// S and its inverse, and M and its inverse elsewhere, are defined apart, so each has a function with its own promise.
 impl Cube {
     pub(crate) fn s_boxes(self) -> Cube
         ensures { nibbles result ≡ S (nibbles self) }
