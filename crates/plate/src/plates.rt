@@ -90,8 +90,8 @@ impl Shelf for Plate<'_> {
         self.allows_put(place, bytes.len())?;
         let from = 1026 * self.used;
         let cell = &mut self.memory[from..from + 1026];
-        cell[..2].copy_from_slice(&(place as u16 + 1).to_be_bytes());
-        cell[2..].copy_from_slice(bytes);
+        octets::paste(cell, 2, bytes);
+        octets::paste(cell, 0, &(place as u16 + 1).to_be_bytes());
         self.used += 1;
         Ok(())
     }
