@@ -33,16 +33,28 @@ pub(crate) fn value<C: TwoWayCipher>(
 ) -> Result<Vec<u8>, NoValue> {
     let key = record.key.as_slice();
     let nonce = record.nonce.as_deref();
-    let under = record.associated.as_deref().map(|associated| Cascade {
-        cipher: form,
-        key,
-        nonce: nonce.unwrap_or(&[]),
-        associated,
-    });
-    match (text, &under, nonce) {
+    match (text, record.associated.as_deref(), nonce) {
         (Text::Message(message), _, _) => hashed(form, heap, message),
-        (Text::Plain(message), Some(under), _) => sealed(heap, under, message),
-        (Text::Cipher(text), Some(under), _) => opened(heap, under, text),
+        (Text::Plain(message), Some(associated), _) => {
+            let nonce = nonce.unwrap_or(&[]);
+            let under = Cascade {
+                cipher: form,
+                key,
+                nonce,
+                associated,
+            };
+            sealed(heap, &under, message)
+        }
+        (Text::Cipher(text), Some(associated), _) => {
+            let nonce = nonce.unwrap_or(&[]);
+            let under = Cascade {
+                cipher: form,
+                key,
+                nonce,
+                associated,
+            };
+            opened(heap, &under, text)
+        }
         (Text::Plain(message), None, Some(nonce)) => sealed_short(form, heap, key, nonce, message),
         (Text::Cipher(block), None, Some(nonce)) => opened_short(form, heap, key, nonce, block),
         (Text::Plain(text), None, None) => {
