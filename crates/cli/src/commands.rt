@@ -1,40 +1,156 @@
-use crate::problems::Problem;
+ghost use Rattle.std.specs.Prelude.{◌↔◌, ◌∷◌, codes, map, IfOk, IsOk, IsTrue, string_bytes};
+ghost use Rattle.cli.specs.Spelling.{Reads, IsOfAShelf};
 
-pub(crate) const USAGE: &str =
+use crate::problems::Problem;
+use desk::Unmade;
+use faults::ModeCause;
+use std::{fmt, io};
+
+// How the commands on files are called.
+pub const FILES_USAGE: &str =
     "usage: majgunter hash FILE...                            print the Saturnin-Hash of each file
        majgunter lock [--nonce HEX] KEYFILE IN OUT      lock a file with a key of 32 bytes
-       majgunter unlock KEYFILE IN OUT                  unlock it again
-       majgunter shelf tray FILE                        print what a tray holds
+       majgunter unlock KEYFILE IN OUT                  unlock it again";
+
+// How those on shelves are called.
+pub(crate) const SHELVES_USAGE: &str =
+    "       majgunter shelf tray FILE                        print what a tray holds
        majgunter shelf plate FILE PLACES                print what a plate of so many places holds";
 
+// A command of the program, with what its words name.
 #[derive(Clone, Copy)]
-pub(crate) enum Command {
-    Hash,
-    Lock,
-    Unlock,
-    Shelf,
+pub enum Command<'a> {
+    Help,
+    Hash(&'a [String]),
+    Lock {
+        nonce: Option<&'a str>,
+        key: &'a str,
+        from: &'a str,
+        to: &'a str,
+    },
+    Unlock {
+        key: &'a str,
+        from: &'a str,
+        to: &'a str,
+    },
+    Tray {
+        file: &'a str,
+    },
+    Plate {
+        file: &'a str,
+        places: &'a str,
+    },
 }
 
-impl Command {
-    // What a refusal means to the user of this command.
-    pub(crate) fn hint(self, problem: &Problem) -> &'static str {
-        let number = match problem {
-            Problem::Refused(fault) => fault.number(),
-            Problem::Unfit(fault) => fault.number(),
-            _ => 0,
+impl<'a> Command<'a> {
+    // The command that the words are, if they are one.
+    pub fn of(words: &'a [String]) -> Option<Command<'a>>
+        ensures { Reads (map string_bytes words.now) result }
+    {
+        let [first, rest @ ..] = words else {
+            return None;
         };
-        match (self, number) {
-            (Command::Hash, 2) => "; a hash takes at most 65,536 bytes",
-            (Command::Lock, 1) => "; a key file has 32 bytes, and a nonce 20",
-            (Command::Lock, 2) => "; a file to lock has at most 65,536 bytes",
-            (Command::Unlock, 1) => "; a key file has 32 bytes, and a locked file at least 56",
-            (Command::Unlock, 2) => "; a locked file has at most 65,592 bytes",
-            (Command::Unlock, 11) => {
-                "; the file is damaged, locked with another key, or no locked file"
+        match first.as_str() {
+            "help" | "--help" => rest.is_empty().then_some(Command::Help),
+            "hash" => (!rest.is_empty()).then_some(Command::Hash(rest)),
+            "lock" => Command::of_lock(rest),
+            "unlock" => Command::of_unlock(rest),
+            "shelf" => Command::of_shelf(rest),
+            _ => None,
+        }
+    }
+
+    fn of_lock(words: &'a [String]) -> Option<Command<'a>>
+        ensures { Reads (codes "lock" ∷ map string_bytes words.now) result }
+    {
+        match words {
+            [key, from, to] => Some(Command::Lock {
+                nonce: None,
+                key,
+                from,
+                to,
+            }),
+            [option, nonce, key, from, to] if option.as_str() == "--nonce" => Some(Command::Lock {
+                nonce: Some(nonce),
+                key,
+                from,
+                to,
+            }),
+            _ => None,
+        }
+    }
+
+    fn of_unlock(words: &'a [String]) -> Option<Command<'a>>
+        ensures { Reads (codes "unlock" ∷ map string_bytes words.now) result }
+    {
+        let [key, from, to] = words else {
+            return None;
+        };
+        Some(Command::Unlock { key, from, to })
+    }
+
+    fn of_shelf(words: &'a [String]) -> Option<Command<'a>>
+        ensures { Reads (codes "shelf" ∷ map string_bytes words.now) result }
+    {
+        match words {
+            [kind, file] if kind.as_str() == "tray" => Some(Command::Tray { file }),
+            [kind, file, places] if kind.as_str() == "plate" => Some(Command::Plate {
+                file,
+                places,
+            }),
+            _ => None,
+        }
+    }
+
+    // Whether it tells of a shelf.
+    pub fn is_of_a_shelf(&self) -> bool
+        ensures { IsTrue result ↔ IsOfAShelf self.now }
+    {
+        matches!(self, Command::Tray { .. } | Command::Plate { .. })
+    }
+
+    // Whether the command was done: what it gives, or, on standard error, why it is not done.
+    pub(crate) fn told<T: fmt::Display + Drop>(
+        &self,
+        rt: &HostRuntime,
+        name: &str,
+        answer: Result<T, Problem>,
+    ) -> io::Result<bool>
+        ensures { IfOk result (λ done. IsTrue done ↔ IsOk answer) }
+    {
+        match answer {
+            Ok(text) => {
+                print!(rt; "{text}")?;
+                Ok(true)
             }
-            (Command::Shelf, 13) => {
-                "; a plate has 1 to 4,096 places, no mark above their count, and no used cell after an unused one"
+            Err(problem) => {
+                let hint = self.hint(&problem);
+                eprintln!(rt; "majgunter: {name}: {problem}{hint}")?;
+                Ok(false)
             }
+        }
+    }
+
+    // What a refusal means to the user of this command.
+    fn hint(&self, problem: &Problem) -> &'static str {
+        let cause = match problem {
+            Problem::Unmade(Unmade::Refused(fault)) => fault.cause,
+            Problem::Unmade(Unmade::Unfit(_)) => {
+                return "; a plate has 1 to 4,096 places, no mark above their count, and no used cell after an unused one";
+            }
+            _ => return "",
+        };
+        match (self, cause) {
+            (Command::Hash(_), ModeCause::Limit) => "; a hash takes at most 65,536 bytes",
+            (Command::Lock { .. }, ModeCause::Length) =>
+                "; a key file has 32 bytes, and a nonce 20",
+            (Command::Lock { .. }, ModeCause::Limit) => "; a file to lock has at most 65,536 bytes",
+            (Command::Unlock { .. }, ModeCause::Length) =>
+                "; a key file has 32 bytes, and a locked file at least 56",
+            (Command::Unlock { .. }, ModeCause::Limit) =>
+                "; a locked file has at most 65,592 bytes",
+            (Command::Unlock { .. }, ModeCause::Tag) =>
+                "; the file is damaged, locked with another key, or no locked file",
             _ => "",
         }
     }

@@ -15,13 +15,10 @@ pub(crate) fn write_whole(rt: &HostRuntime, name: &str, bytes: &[u8]) -> io::Res
     let mut file = OpenOptions::new()
         .write(true)
         .create_new(true)
-        .open(rt, part.as_str())?;
-    let written = match filled(&mut file, bytes) {
-        Ok(()) => fs::rename(rt, part.as_str(), name),
-        Err(e) => Err(e),
-    };
+        .open(rt, &part)?;
+    let written = filled(&mut file, bytes).and_then(|()| fs::rename(rt, &part, name));
     if written.is_err() {
-        let _ = fs::remove_file(rt, part.as_str());
+        let _ = fs::remove_file(rt, &part);
     }
     written
 }

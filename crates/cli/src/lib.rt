@@ -1,110 +1,84 @@
 #![tactic(auto)]
 
-ghost use Rattle.std.specs.Prelude.{◌↔◌, map, IfOk, IsOk, IsTrue, string_bytes};
-ghost use Rattle.cli.specs.Commands.{IsHelp, IsShelf, IsCommand};
+ghost use Rattle.std.specs.Prelude.{◌≡◌, map, IfOk, IsNone, IsTrue, string_bytes};
+ghost use Rattle.faults.specs.Tables.{Not};
+ghost use Rattle.cli.specs.Commands.{IsHelp, IsCommand};
 
 mod commands;
 mod files;
 mod locks;
 mod problems;
 mod shelves;
+#[cfg(test)]
+mod tests;
 
-use commands::{Command, USAGE};
+use commands::SHELVES_USAGE;
+pub use commands::{Command, FILES_USAGE};
 use desk::digest_line;
 use files::read_limited;
 use locks::{lock_file, unlock_file};
 use problems::Problem;
 use shelves::{plate_told, tray_told};
-use std::io;
+use std::{fmt, io};
 
 // One command of the program, in words. Whether all was done.
 pub fn run(rt: &HostRuntime, words: &[String]) -> io::Result<bool>
     ensures help { IsHelp (map string_bytes words.now) → IfOk result IsTrue }
     ensures commands { IfOk result (λ done. IsTrue done → IsCommand (map string_bytes words.now)) }
 {
-    match words {
-        [first] if first.as_str() == "help" || first.as_str() == "--help" => {
-            println!(rt; "{USAGE}")?;
+    let usage = format_args!("{FILES_USAGE}\n{SHELVES_USAGE}");
+    perform(rt, Command::of(words), &usage)
+}
+
+// A command, or where there is none its usage on standard error. Whether all was done.
+pub fn perform(
+    rt: &HostRuntime,
+    command: Option<Command>,
+    usage: &impl fmt::Display,
+) -> io::Result<bool>
+    ensures help { command.entry ≡ Some Command.Help → IfOk result IsTrue }
+    ensures none { IsNone command.entry → IfOk result (λ done. Not (IsTrue done)) }
+{
+    let Some(command) = command else {
+        eprintln!(rt; "{usage}")?;
+        return Ok(false);
+    };
+    match command {
+        Command::Help => {
+            println!(rt; "{usage}")?;
             Ok(true)
         }
-        [first, files @ ..] if first.as_str() == "hash" && !files.is_empty() => {
-            hash_files(rt, files)
+        Command::Hash(files) => hash_files(rt, command, files),
+        Command::Lock {
+            nonce,
+            key,
+            from,
+            to,
+        } => {
+            let done = lock_file(rt, nonce, key, from, to);
+            command.told(rt, from, done.map(|()| ""))
         }
-        [first, key, from, to] if first.as_str() == "lock" => {
-            let done = lock_file(rt, None, key.as_str(), from.as_str(), to.as_str());
-            told(rt, Command::Lock, from.as_str(), done)
+        Command::Unlock { key, from, to } => {
+            let done = unlock_file(rt, key, from, to);
+            command.told(rt, from, done.map(|()| ""))
         }
-        [first, option, nonce, key, from, to]
-            if first.as_str() == "lock" && option.as_str() == "--nonce" => {
-            let nonce = Some(nonce.as_str());
-            let done = lock_file(rt, nonce, key.as_str(), from.as_str(), to.as_str());
-            told(rt, Command::Lock, from.as_str(), done)
-        }
-        [first, key, from, to] if first.as_str() == "unlock" => {
-            let done = unlock_file(rt, key.as_str(), from.as_str(), to.as_str());
-            told(rt, Command::Unlock, from.as_str(), done)
-        }
-        [first, rest @ ..] if first.as_str() == "shelf" => show_shelf(rt, rest),
-        _ => {
-            eprintln!(rt; "{USAGE}")?;
-            Ok(false)
-        }
+        Command::Tray { file } => command.told(rt, file, tray_told(rt, file)),
+        Command::Plate { file, places } => command.told(rt, file, plate_told(rt, file, places)),
     }
 }
 
 // A line for each file; one that has none gets its reason on standard error, and the others are still done.
-fn hash_files(rt: &HostRuntime, files: &[String]) -> io::Result<bool> {
+fn hash_files(rt: &HostRuntime, command: Command, files: &[String]) -> io::Result<bool> {
     let mut all = true;
     for file in files {
-        let name = file.as_str();
-        match hash_file(rt, name) {
-            Ok(line) => println!(rt; "{line}")?,
-            Err(problem) => all = told(rt, Command::Hash, name, Err(problem))?,
-        }
+        all = command.told(rt, file, hash_file(rt, file))? && all;
     }
     Ok(all)
 }
 
 fn hash_file(rt: &HostRuntime, name: &str) -> Result<String, Problem> {
     let bytes = read_limited(rt, name, 65_537)?;
-    Ok(digest_line(rt.alloc(), name, &bytes)?)
-}
-
-fn show_shelf(rt: &HostRuntime, words: &[String]) -> io::Result<bool>
-    ensures { IfOk result (λ done. IsTrue done → IsShelf (map string_bytes words.now)) }
-{
-    let (file, report) = match words {
-        [kind, file] if kind.as_str() == "tray" => (file, tray_told(rt, file.as_str())),
-        [kind, file, places] if kind.as_str() == "plate" => {
-            (file, plate_told(rt, file.as_str(), places.as_str()))
-        }
-        _ => {
-            eprintln!(rt; "{USAGE}")?;
-            return Ok(false);
-        }
-    };
-    match report {
-        Ok(text) => {
-            print!(rt; "{text}")?;
-            Ok(true)
-        }
-        Err(problem) => told(rt, Command::Shelf, file.as_str(), Err(problem)),
-    }
-}
-
-// Whether a command was done; if not, why not, on standard error.
-fn told(
-    rt: &HostRuntime,
-    command: Command,
-    name: &str,
-    done: Result<(), Problem>,
-) -> io::Result<bool>
-    ensures { IfOk result (λ all. IsTrue all ↔ IsOk done) }
-{
-    let Err(problem) = done else {
-        return Ok(true);
-    };
-    let hint = command.hint(&problem);
-    eprintln!(rt; "majgunter: {name}: {problem}{hint}")?;
-    Ok(false)
+    let mut line = digest_line(rt.alloc(), name, &bytes)?;
+    line.push('\n')?;
+    Ok(line)
 }

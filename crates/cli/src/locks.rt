@@ -14,17 +14,10 @@ pub(crate) fn lock_file(
     let message = read_limited(rt, from, 65_537)?;
     let nonce = match nonce {
         None => read_limited(rt, "/dev/urandom", 20)?,
-        Some(digits) => given_nonce(rt, digits)?,
+        Some(digits) => hexadecimal::decode(rt.alloc(), digits)?.ok_or(Problem::NoDigits)?,
     };
     let file = locked_bytes(rt.alloc(), &key, &nonce, &message)?;
     put(rt, to, &file)
-}
-
-fn given_nonce(rt: &HostRuntime, digits: &str) -> Result<Vec<u8>, Problem> {
-    match hexadecimal::decode(rt.alloc(), digits)? {
-        Some(nonce) => Ok(nonce),
-        None => Err(Problem::NoDigits),
-    }
 }
 
 pub(crate) fn unlock_file(
@@ -40,15 +33,9 @@ pub(crate) fn unlock_file(
 }
 
 fn read_key(rt: &HostRuntime, name: &str) -> Result<Vec<u8>, Problem> {
-    match read_limited(rt, name, 33) {
-        Ok(key) => Ok(key),
-        Err(e) => Err(Problem::KeyUnread(e)),
-    }
+    read_limited(rt, name, 33).map_err(Problem::KeyUnread)
 }
 
 fn put(rt: &HostRuntime, name: &str, bytes: &[u8]) -> Result<(), Problem> {
-    match write_whole(rt, name, bytes) {
-        Ok(()) => Ok(()),
-        Err(e) => Err(Problem::Unwritten(e)),
-    }
+    write_whole(rt, name, bytes).map_err(Problem::Unwritten)
 }

@@ -1,13 +1,11 @@
 use desk::Unmade;
-use faults::{ModeFault, ShelfFault};
 use std::alloc::AllocError;
 use std::{fmt, io};
 
 // Why a command is not done.
 #[derive(Drop)]
 pub enum Problem {
-    Refused(ModeFault),
-    Memory,
+    Unmade(Unmade),
     NoDigits,
     NoCount,
     Unread(io::Error),
@@ -15,27 +13,17 @@ pub enum Problem {
     Unwritten(io::Error),
     // an image of more bytes than a shelf of its kind can have
     Over(u64),
-    Unfit(ShelfFault),
 }
 
 impl From<Unmade> for Problem {
     fn from(u: Unmade) -> Problem {
-        match u {
-            Unmade::Refused(fault) => Problem::Refused(fault),
-            Unmade::Memory => Problem::Memory,
-        }
-    }
-}
-
-impl From<ShelfFault> for Problem {
-    fn from(f: ShelfFault) -> Problem {
-        Problem::Unfit(f)
+        Problem::Unmade(u)
     }
 }
 
 impl From<AllocError> for Problem {
-    fn from(_e: AllocError) -> Problem {
-        Problem::Memory
+    fn from(e: AllocError) -> Problem {
+        Problem::Unmade(e.into())
     }
 }
 
@@ -48,15 +36,13 @@ impl From<io::Error> for Problem {
 impl fmt::Display for Problem {
     fn fmt<W: fmt::Write>(&self, f: &mut fmt::Formatter<W>) -> fmt::Result {
         match self {
-            Problem::Refused(fault) => write!(f, "{fault}"),
-            Problem::Memory => write!(f, "no memory"),
+            Problem::Unmade(unmade) => write!(f, "{unmade}"),
             Problem::NoDigits => write!(f, "the nonce is not in hexadecimal digits"),
             Problem::NoCount => write!(f, "the count of places is not a number"),
             Problem::Unread(e) => write!(f, "{e}"),
             Problem::KeyUnread(e) => write!(f, "the key file: {e}"),
             Problem::Unwritten(e) => write!(f, "the file to write: {e}"),
             Problem::Over(limit) => write!(f, "over {limit} bytes, the most that such a shelf has"),
-            Problem::Unfit(fault) => write!(f, "{fault}"),
         }
     }
 }

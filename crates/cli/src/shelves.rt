@@ -12,18 +12,16 @@ const PLATE_BYTES: u64 = 8_404_992;
 pub(crate) fn tray_told(rt: &HostRuntime, file: &str) -> Result<String, Problem> {
     let mut image = read_image(rt, file, TRAY_BYTES)?;
     let spare = image.len() % 1024;
-    let text = tray_report(rt.alloc(), image.as_mut_slice())?;
+    let text = tray_report(rt.alloc(), &mut image)?;
     Ok(with_spare(rt.alloc(), text, spare)?)
 }
 
 // What the plate in a file holds, or why there is none.
 pub(crate) fn plate_told(rt: &HostRuntime, file: &str, places: &str) -> Result<String, Problem> {
-    let Ok(places) = places.parse::<u32>() else {
-        return Err(Problem::NoCount);
-    };
+    let places = places.parse::<u32>().map_err(|_| Problem::NoCount)?;
     let mut image = read_image(rt, file, PLATE_BYTES)?;
     let spare = image.len() % 1026;
-    let text = plate_report(rt.alloc(), image.as_mut_slice(), places)??;
+    let text = plate_report(rt.alloc(), &mut image, places)?;
     Ok(with_spare(rt.alloc(), text, spare)?)
 }
 

@@ -1,17 +1,12 @@
--- A locking and an unlocking into buffers of the right length, by their answers.
-use Rattle.std.proofs.Common.{◌≡◌, ℕ, ◌+◌, ◌-◌, List, length, Ok, Err, Result, sym, refl, subst}
+-- An unlocking into a buffer of the right length, by its answer.
+use Rattle.std.proofs.Common.{◌≡◌, ℕ, ◌-◌, List, length, Ok, Err, Result, sym, subst}
 use Rattle.faults.specs.Tables.{By, Clear}
 use Rattle.faults.specs.declared.ModeFault.{ModeFault}
 use Rattle.faults.proofs.Tables.{done_when, by_follows}
 use Rattle.saturnin.specs.Rounds.{forward}
 use Rattle.modes.specs.Cascade.{left}
 use Rattle.modes.proofs.Exactly.{never_both}
-use Rattle.locked.specs.Locked.{locked, lock_table, Locks, Holds, unlock_table, Unlocks}
-
-pub lock_done : (key nonce message file file' : List ℕ) (x : Unit {0}) → length file ≡ 56 + length message → Locks forward key nonce message file (Ok x) file' → Clear (lock_table (length key) (length nonce) (length message) (56 + length message)) × (file' ≡ locked forward key nonce message)
-lock_done key nonce message file file' x l h =
-    let w = done_when (λ cause. (◌≡◌ {A = Result (Unit {0}) ModeFault} (Ok x) (Err (record { cause = cause }))) × (file' ≡ file)) ((◌≡◌ {A = Result (Unit {0}) ModeFault} (Ok x) (Ok tt)) × (file' ≡ locked forward key nonce message)) (lock_table (length key) (length nonce) (length message) (length file)) (λ c r. never_both x (record { cause = c }) r.0) h in
-    ((λ n. w.0.0 (λ p. n (p.0, p.1, refl)), (w.0.1.0, tt)), w.1.1)
+use Rattle.locked.specs.Locked.{Holds, unlock_table, Unlocks}
 
 pub unlock_done : (key file out out' : List ℕ) (x : Unit {0}) → length out ≡ length file - 56 → Unlocks forward key file out (Ok x) out' → Clear (unlock_table forward key file (length file - 56)) × Holds forward key file out'
 unlock_done key file out out' x l h =

@@ -5,7 +5,7 @@ use Rattle.hexadecimal.specs.Hex.{spelled}
 use Rattle.modes.specs.Hash.{hash}
 use Rattle.saturnin.specs.Rounds.{forward}
 use Rattle.desk.specs.declared.unmade.Unmade.{Unmade}
-use Rattle.desk.specs.declared.unmade.Unmade.TheVariants.{Refused, Memory}
+use Rattle.desk.specs.declared.unmade.Unmade.TheVariants.{Refused, Unfit, Memory}
 
 -- the digest in hexadecimal digits, two blanks and the name
 abbrev pub digest_line : (name bytes : List ℕ) → List ℕ
@@ -15,4 +15,5 @@ digest_line name bytes = spelled (hash forward bytes) ++ (codes "  " ++ name)
 abbrev pub Answers : {Text : Type 0} → (Text → List ℕ) → (name bytes : List ℕ) → Result Text Unmade → Type 0
 Answers text name bytes (Ok line) = (length bytes ≤ 65536) × (text line ≡ digest_line name bytes)
 Answers text name bytes (Err (Refused fault)) = (65536 < length bytes) × (fault ≡ record { cause = Limit })
+Answers text name bytes (Err (Unfit fault)) = ⊥
 Answers text name bytes (Err Memory) = Unit {0}

@@ -15,7 +15,7 @@ pub fn locked_bytes(
     ensures { Locking vec_items key.now nonce.now message.now result }
 {
     let mut file = vec![in heap; 0; message.len() + 56]?;
-    locked::lock(&WordForm, key, nonce, message, file.as_mut_slice())?;
+    locked::lock(&WordForm, key, nonce, message, &mut file)?;
     Ok(file)
 }
 
@@ -24,6 +24,6 @@ pub fn unlocked_bytes(heap: Global, key: &[u8], file: &[u8]) -> Result<Vec<u8>, 
     ensures { Unlocking vec_items key.now file.now result }
 {
     let mut message = vec![in heap; 0; file.len().saturating_sub(56)]?;
-    locked::unlock(&WordForm, key, file, message.as_mut_slice())?;
+    locked::unlock(&WordForm, key, file, &mut message)?;
     Ok(message)
 }

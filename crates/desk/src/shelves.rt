@@ -3,7 +3,7 @@ ghost use Rattle.shelf.specs.Trays.{tray as tray_in};
 ghost use Rattle.sheets.specs.Reports.{Reports};
 ghost use Rattle.desk.specs.Shelves.{Told};
 
-use faults::ShelfFault;
+use crate::unmade::Unmade;
 use plate::Plate;
 use sheets::report;
 use std::alloc::{AllocError, Global};
@@ -19,17 +19,11 @@ pub fn tray_report(heap: Global, image: &mut [u8]) -> Result<String, AllocError>
 }
 
 // What the plate in an image holds, or why it is unfit.
-pub fn plate_report(
-    heap: Global,
-    image: &mut [u8],
-    places: u32,
-) -> Result<Result<String, ShelfFault>, AllocError>
-    ensures told { IfOk result (λ answer. Told string_bytes image.old places answer) }
+pub fn plate_report(heap: Global, image: &mut [u8], places: u32) -> Result<String, Unmade>
+    ensures told { Told string_bytes image.old places result }
     ensures same { image.new ≡ image.old }
 {
-    if let Err(fault) = Plate::check(image, places) {
-        return Ok(Err(fault));
-    }
+    Plate::check(image, places)?;
     let plate = Plate::new(image, places);
-    Ok(Ok(report(heap, &plate)?))
+    Ok(report(heap, &plate)?)
 }

@@ -157,6 +157,8 @@ impl fmt::Display for BoxCause {
     }
 }
 
+// The number of a fault, and its words below, once for each type that has them: a trait of faults would be longer than these
+// lines, and one generic type would give a mode's fault a place.
 impl ModeFault {
     pub fn number(self) -> u8
         ensures { result ≡ (entry (Mode self.cause)).number }

@@ -1,29 +1,26 @@
-use anyhow::anyhow;
+use anyhow::{Context, anyhow};
 use std::alloc::Global;
 
-// What is to be done with the text of a record.
-#[derive(Clone, Copy)]
-pub(crate) enum Task {
-    Nothing,
-    Encrypt,
-    Decrypt,
-    Hash,
-    Seal,
-    Open,
-    SealShort,
-    OpenShort,
+// What stands under PT, CT or Msg.
+#[derive(Drop)]
+pub(crate) enum Text {
+    Plain(Vec<u8>),
+    Cipher(Vec<u8>),
+    Message(Vec<u8>),
 }
 
-// Which value of a record its text is.
-#[derive(Clone, Copy)]
-enum Given {
-    Nothing,
-    Plaintext,
-    Ciphertext,
-    Message,
+impl Text {
+    // The name of the value that is left out.
+    pub(crate) fn wanted(&self) -> &'static str {
+        match self {
+            Text::Plain(_) => "CT",
+            Text::Cipher(_) => "PT",
+            Text::Message(_) => "MD",
+        }
+    }
 }
 
-// The lines `NAME = VALUE` of a record up to a blank line. The text is what stands under PT, CT or Msg.
+// The lines `NAME = VALUE` of a record up to a blank line.
 #[derive(Drop)]
 pub(crate) struct Record {
     pub(crate) count: u32,
@@ -32,8 +29,7 @@ pub(crate) struct Record {
     pub(crate) d: u8,
     pub(crate) nonce: Option<Vec<u8>>,
     pub(crate) associated: Option<Vec<u8>>,
-    pub(crate) text: Vec<u8>,
-    given: Given,
+    pub(crate) text: Option<Text>,
 }
 
 impl Record {
@@ -45,64 +41,29 @@ impl Record {
             d: 0,
             nonce: None,
             associated: None,
-            text: Vec::new(heap),
-            given: Given::Nothing,
-        }
-    }
-
-    // A record with associated data is one of CTR-Cascade, one with only a nonce of Short.
-    pub(crate) fn task(&self) -> Task {
-        match (self.given, self.nonce.is_some(), self.associated.is_some()) {
-            (Given::Nothing, _, _) => Task::Nothing,
-            (Given::Message, _, _) => Task::Hash,
-            (Given::Plaintext, _, true) => Task::Seal,
-            (Given::Ciphertext, _, true) => Task::Open,
-            (Given::Plaintext, true, false) => Task::SealShort,
-            (Given::Ciphertext, true, false) => Task::OpenShort,
-            (Given::Plaintext, false, false) => Task::Encrypt,
-            (Given::Ciphertext, false, false) => Task::Decrypt,
-        }
-    }
-
-    // The name of the value that is left out.
-    pub(crate) fn wanted(&self) -> &'static str {
-        match self.given {
-            Given::Nothing => "",
-            Given::Plaintext => "CT",
-            Given::Ciphertext => "PT",
-            Given::Message => "MD",
+            text: None,
         }
     }
 
     pub(crate) fn note(&mut self, heap: Global, line: &str) -> anyhow::Result<()> {
-        let Some((name, value)) = line.split_once(" =") else {
-            return Err(anyhow!("a line has no ' ='"));
-        };
+        let (name, value) = line.split_once(" =").context("a line has no ' ='")?;
         let value = value.trim();
         match name {
-            "Count" => self.count = value.parse::<u32>()?,
-            "R" => self.r = value.parse::<u8>()?,
-            "D" => self.d = value.parse::<u8>()?,
+            "Count" => self.count = value.parse()?,
+            "R" => self.r = value.parse()?,
+            "D" => self.d = value.parse()?,
             "Key" => self.key = bytes(heap, value)?,
             "Nonce" => self.nonce = Some(bytes(heap, value)?),
             "AD" => self.associated = Some(bytes(heap, value)?),
-            "PT" => self.fill(bytes(heap, value)?, Given::Plaintext),
-            "CT" => self.fill(bytes(heap, value)?, Given::Ciphertext),
-            "Msg" => self.fill(bytes(heap, value)?, Given::Message),
+            "PT" => self.text = Some(Text::Plain(bytes(heap, value)?)),
+            "CT" => self.text = Some(Text::Cipher(bytes(heap, value)?)),
+            "Msg" => self.text = Some(Text::Message(bytes(heap, value)?)),
             _ => return Err(anyhow!("a line has an unknown name")),
         }
         Ok(())
     }
-
-    fn fill(&mut self, text: Vec<u8>, given: Given) {
-        self.text = text;
-        self.given = given;
-    }
 }
 
 fn bytes(heap: Global, value: &str) -> anyhow::Result<Vec<u8>> {
-    match hexadecimal::decode(heap, value)? {
-        Some(bytes) => Ok(bytes),
-        None => Err(anyhow!("a value is not in hexadecimal digits")),
-    }
+    hexadecimal::decode(heap, value)?.context("a value is not in hexadecimal digits")
 }

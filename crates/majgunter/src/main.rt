@@ -1,18 +1,10 @@
 #![tactic(auto)]
 
-mod commands;
-mod digests;
-mod files;
-mod locks;
-mod problems;
-#[cfg(test)]
-mod tests;
+ghost use Rattle.std.specs.Prelude.{codes, map, IfOk, IsTrue, string_bytes};
+ghost use Rattle.faults.specs.Tables.{Not};
+ghost use Rattle.cli.specs.Commands.{Begins, IsHelp, IsShelf, IsCommand};
 
-use commands::{Command, USAGE};
-use digests::digest_line;
-use files::read_limited;
-use locks::{lock_file, unlock_file};
-use problems::Problem;
+use cli::{Command, FILES_USAGE, perform};
 use std::process::ExitCode;
 use std::{env, io};
 
@@ -28,67 +20,17 @@ fn main(rt: HostRuntime) -> ExitCode {
     }
 }
 
-// Whether all was done.
 fn run(rt: &HostRuntime) -> io::Result<bool> {
     let words: Vec<String> = env::args(rt)?.skip(1).collect(rt.alloc())?;
-    match words.as_slice() {
-        [first] if first.as_str() == "help" || first.as_str() == "--help" => {
-            println!(rt; "{USAGE}")?;
-            Ok(true)
-        }
-        [first, files @ ..] if first.as_str() == "hash" && !files.is_empty() => {
-            hash_files(rt, files)
-        }
-        [first, key, from, to] if first.as_str() == "lock" => {
-            let done = lock_file(rt, None, key.as_str(), from.as_str(), to.as_str());
-            told(rt, Command::Lock, from.as_str(), done)
-        }
-        [first, option, nonce, key, from, to]
-            if first.as_str() == "lock" && option.as_str() == "--nonce" => {
-            let nonce = Some(nonce.as_str());
-            let done = lock_file(rt, nonce, key.as_str(), from.as_str(), to.as_str());
-            told(rt, Command::Lock, from.as_str(), done)
-        }
-        [first, key, from, to] if first.as_str() == "unlock" => {
-            let done = unlock_file(rt, key.as_str(), from.as_str(), to.as_str());
-            told(rt, Command::Unlock, from.as_str(), done)
-        }
-        _ => {
-            eprintln!(rt; "{USAGE}")?;
-            Ok(false)
-        }
-    }
+    run_on_files(rt, &words)
 }
 
-// A line for each file; one that has none gets its reason on standard error, and the others are still done.
-fn hash_files(rt: &HostRuntime, files: &[String]) -> io::Result<bool> {
-    let mut all = true;
-    for file in files {
-        let name = file.as_str();
-        match hash_file(rt, name) {
-            Ok(line) => println!(rt; "{line}")?,
-            Err(problem) => all = told(rt, Command::Hash, name, Err(problem))?,
-        }
-    }
-    Ok(all)
-}
-
-fn hash_file(rt: &HostRuntime, name: &str) -> Result<String, Problem> {
-    let bytes = read_limited(rt, name, 65_537)?;
-    digest_line(rt.alloc(), name, &bytes)
-}
-
-// Whether a command was done; if not, why not, on standard error.
-fn told(
-    rt: &HostRuntime,
-    command: Command,
-    name: &str,
-    done: Result<(), Problem>,
-) -> io::Result<bool> {
-    let Err(problem) = done else {
-        return Ok(true);
-    };
-    let hint = command.hint(&problem);
-    eprintln!(rt; "majgunter: {name}: {problem}{hint}")?;
-    Ok(false)
+// One command, of those on files alone. Whether all was done.
+fn run_on_files(rt: &HostRuntime, words: &[String]) -> io::Result<bool>
+    ensures help { IsHelp (map string_bytes words.now) → IfOk result IsTrue }
+    ensures commands { IfOk result (λ done. IsTrue done → IsCommand (map string_bytes words.now)) }
+    ensures files { IfOk result (λ done. IsTrue done → Not (Begins (codes "shelf") IsShelf (map string_bytes words.now))) }
+{
+    let command = Command::of(words).filter(|command| !command.is_of_a_shelf());
+    perform(rt, command, &FILES_USAGE)
 }

@@ -1,4 +1,4 @@
-ghost use Rattle.std.specs.Prelude.{◌≡◌, ℕ, [], length};
+ghost use Rattle.std.specs.Prelude.{◌≡◌, ◌≤◌, [], length};
 ghost use Rattle.modes.specs.Bytes.{padded, full_blocks, tail_of};
 ghost use Rattle.modes.specs.Chains.{link as linked, links, TakesBlock, TakesTail};
 
@@ -6,7 +6,6 @@ use crate::bytes::{pad, xor};
 use crate::counters::CounterBlock;
 use faults::{ModeCause, ModeFault};
 use saturnin::{Cipher, Parameters};
-use std::marker::PhantomData;
 
 // Block `a` replaces the chain value `t`.
 fn link<C: Cipher>(cipher: &C, by: Parameters, t: &[u8; 32], a: &[u8; 32]) -> [u8; 32]
@@ -15,77 +14,27 @@ fn link<C: Cipher>(cipher: &C, by: Parameters, t: &[u8; 32], a: &[u8; 32]) -> [u
     xor(a, &cipher.encrypt_block(t, by, a))
 }
 
-// What a chain takes: blocks by one separator, and the tail at its end by another.
-pub trait Part {
-    ghost of_blocks: { ℕ };
-
-    ghost of_end: { ℕ };
-
-    ghost rounds: { ℕ };
-
-    fn for_blocks() -> Parameters
-        ensures { (result.d ≡ of_blocks) × (result.r ≡ rounds) };
-
-    fn for_end() -> Parameters
-        ensures { (result.d ≡ of_end) × (result.r ≡ rounds) };
-}
-
-// Associated data.
-pub struct Data;
-
-impl Part for Data {
-    ghost of_blocks = { 2 };
-
-    ghost of_end = { 3 };
-
-    ghost rounds = { 10 };
-
-    fn for_blocks() -> Parameters {
-        Parameters { d: 2, r: 10 }
-    }
-
-    fn for_end() -> Parameters {
-        Parameters { d: 3, r: 10 }
-    }
-}
-
-// Ciphertext.
-pub struct Text;
-
-impl Part for Text {
-    ghost of_blocks = { 4 };
-
-    ghost of_end = { 5 };
-
-    ghost rounds = { 10 };
-
-    fn for_blocks() -> Parameters {
-        Parameters { d: 4, r: 10 }
-    }
-
-    fn for_end() -> Parameters {
-        Parameters { d: 5, r: 10 }
-    }
-}
-
-// A chain: it takes blocks, and a tail, which it holds padded.
+// A chain: it takes blocks by separator D, and a tail, which it holds padded, by separator LAST, with R super-rounds.
 #[derive(Drop)]
-pub struct Chain<'a, C, P> {
+pub struct Chain<'a, C, const D: u8, const LAST: u8, const R: u8> {
     pub(crate) cipher: &'a C,
     pub(crate) value: [u8; 32],
     pub(crate) tail: [u8; 32],
-    part: PhantomData<P>,
+    ghost separators: { (D ≤ 15) × (LAST ≤ 15) },
+    ghost rounds: { (10 ≤ R) × (R ≤ 31) },
 }
 
 // A chain that takes associated data; it is closed into a text chain.
-pub type DataChain<'a, C> = Chain<'a, C, Data>;
+pub type DataChain<'a, C> = Chain<'a, C, 2, 3, 10>;
 
 // A chain that takes ciphertext, after all data; it is closed into the tag.
-pub type TextChain<'a, C> = Chain<'a, C, Text>;
+pub type TextChain<'a, C> = Chain<'a, C, 4, 5, 10>;
 
-impl<'a, C: Cipher, P: Part> Chain<'a, C, P> {
+impl<'a, C: Cipher, const D: u8, const LAST: u8, const R: u8> Chain<'a, C, D, LAST, R> {
     // A chain that starts from a value, with no tail.
-    pub(crate) fn from(cipher: &'a C, value: [u8; 32]) -> Chain<'a, C, P>
+    pub(crate) fn from(cipher: &'a C, value: [u8; 32]) -> Chain<'a, C, D, LAST, R>
+        requires separators { (D ≤ 15) × (LAST ≤ 15) }
+        requires rounds { (10 ≤ R) × (R ≤ 31) }
         ensures cipher { result.cipher.now ≡ cipher.now }
         ensures value { result.value ≡ value }
         ensures tail { result.tail ≡ padded 32 [] }
@@ -94,19 +43,18 @@ impl<'a, C: Cipher, P: Part> Chain<'a, C, P> {
             cipher,
             value,
             tail: pad(&[]),
-            part: PhantomData,
         }
     }
 
     fn block(&mut self, bytes: &[u8]) -> Result<(), ModeFault>
         ensures cipher { self.new.cipher.now ≡ self.old.cipher.now }
-        ensures value { TakesBlock (C.Cipher.forward self.old.cipher.now) P.of_blocks P.rounds bytes.now self.old.value result self.new.value }
+        ensures value { TakesBlock (C.Cipher.forward self.old.cipher.now) D R bytes.now self.old.value result self.new.value }
         ensures tail { self.new.tail ≡ self.old.tail }
     {
         let Ok(block) = bytes.try_into() else {
             return Err(ModeCause::Length.into());
         };
-        self.value = link(self.cipher, P::for_blocks(), &self.value, block);
+        self.value = link(self.cipher, Parameters { d: D, r: R }, &self.value, block);
         Ok(())
     }
 
@@ -125,35 +73,34 @@ impl<'a, C: Cipher, P: Part> Chain<'a, C, P> {
     // All full blocks of a text, and its tail.
     pub(crate) fn feed(&mut self, bytes: &[u8])
         ensures cipher { self.new.cipher.now ≡ self.old.cipher.now }
-        ensures value { self.new.value ≡ links (C.Cipher.forward self.old.cipher.now) P.of_blocks P.rounds self.old.value bytes.now (full_blocks bytes.now) }
+        ensures value { self.new.value ≡ links (C.Cipher.forward self.old.cipher.now) D R self.old.value bytes.now (full_blocks bytes.now) }
         ensures tail { self.new.tail ≡ padded 32 (tail_of bytes.now) }
     {
         let (blocks, tail) = bytes.as_chunks();
         for block in blocks {
-            self.value = link(self.cipher, P::for_blocks(), &self.value, block);
+            self.value = link(self.cipher, Parameters { d: D, r: R }, &self.value, block);
         }
         self.tail = pad(tail);
     }
 
     // The value after the tail.
     pub(crate) fn end(self) -> [u8; 32]
-        ensures { result ≡ linked (C.Cipher.forward self.entry.cipher.now) P.of_end P.rounds self.entry.value self.entry.tail }
+        ensures { result ≡ linked (C.Cipher.forward self.entry.cipher.now) LAST R self.entry.value self.entry.tail }
     {
-        link(self.cipher, P::for_end(), &self.value, &self.tail)
+        let by = Parameters { d: LAST, r: R };
+        link(self.cipher, by, &self.value, &self.tail)
     }
 }
 
 // The calls on data and on ciphertext have names of their own, so that data for a text chain does not compile.
-impl<'a, C: Cipher> Chain<'a, C, Data> {
+impl<'a, C: Cipher> DataChain<'a, C> {
     pub fn start(cipher: &'a C, key: &[u8; 32], counter: &CounterBlock) -> DataChain<'a, C>
         ensures cipher { result.cipher.now ≡ cipher.now }
         ensures value { result.value ≡ linked (C.Cipher.forward cipher.now) 2 10 key.now counter.now.bytes }
         ensures tail { result.tail ≡ padded 32 [] }
     {
-        Chain::from(
-            cipher,
-            link(cipher, Data::for_blocks(), key, &counter.bytes),
-        )
+        let by = Parameters { d: 2, r: 10 };
+        Chain::from(cipher, link(cipher, by, key, &counter.bytes))
     }
 
     pub fn data_block(&mut self, bytes: &[u8]) -> Result<(), ModeFault>
@@ -181,7 +128,7 @@ impl<'a, C: Cipher> Chain<'a, C, Data> {
     }
 }
 
-impl<C: Cipher> Chain<'_, C, Text> {
+impl<C: Cipher> TextChain<'_, C> {
     pub fn text_block(&mut self, bytes: &[u8]) -> Result<(), ModeFault>
         ensures cipher { self.new.cipher.now ≡ self.old.cipher.now }
         ensures value { TakesBlock (C.Cipher.forward self.old.cipher.now) 4 10 bytes.now self.old.value result self.new.value }

@@ -2,28 +2,9 @@ ghost use Rattle.std.specs.Prelude.{◌≡◌, ℕ, ◌≤◌, length};
 ghost use Rattle.faults.specs.Tables.{Checks};
 ghost use Rattle.modes.specs.Hash.{hash as hashed, hash_table, Hashes};
 
-use crate::chains::{Chain, Part};
+use crate::chains::Chain;
 use faults::{ModeCause, ModeFault};
-use saturnin::{Cipher, Parameters};
-
-// A message that is hashed.
-struct Hashed;
-
-impl Part for Hashed {
-    ghost of_blocks = { 7 };
-
-    ghost of_end = { 8 };
-
-    ghost rounds = { 16 };
-
-    fn for_blocks() -> Parameters {
-        Parameters { d: 7, r: 16 }
-    }
-
-    fn for_end() -> Parameters {
-        Parameters { d: 8, r: 16 }
-    }
-}
+use saturnin::Cipher;
 
 // The digest of at most 65,536 bytes, into a buffer of 32.
 pub fn hash<C: Cipher>(cipher: &C, message: &[u8], digest: &mut [u8]) -> Result<(), ModeFault>
@@ -49,7 +30,7 @@ fn hashable(message: usize, digest: usize) -> Result<(), ModeFault>
 fn hash_of<C: Cipher>(cipher: &C, message: &[u8]) -> [u8; 32]
     ensures { result ≡ hashed (C.Cipher.forward cipher.now) message.now }
 {
-    let mut chain = Chain::<C, Hashed>::from(cipher, [0; 32]);
+    let mut chain = Chain::<C, 7, 8, 16>::from(cipher, [0; 32]);
     chain.feed(message);
     chain.end()
 }

@@ -48,11 +48,17 @@ impl Row {
     {
         let [a, b, c, d] = self.nibbles;
         Row {
-            nibbles: [a.through(even), b.through(odd), c.through(even), d.through(odd)],
+            nibbles: [
+                a.through(even),
+                b.through(odd),
+                c.through(even),
+                d.through(odd),
+            ],
         }
     }
 }
 
+// S and its inverse, and M and its inverse elsewhere, are defined apart, so each has a function with its own promise.
 impl Cube {
     pub(crate) fn s_boxes(self) -> Cube
         ensures { nibbles result ≡ S (nibbles self) }

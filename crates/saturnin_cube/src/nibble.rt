@@ -38,17 +38,26 @@ impl Nibble {
         bit(self.value as u16, k)
     }
 
+    fn bits(self) -> (bool, bool, bool, bool)
+        ensures { (from_bool result.0 ≡ bit_of self.value 0) × (from_bool result.1 ≡ bit_of self.value 1)
+            × (from_bool result.2 ≡ bit_of self.value 2) × (from_bool result.3 ≡ bit_of self.value 3) }
+    {
+        (self.bit(0), self.bit(1), self.bit(2), self.bit(3))
+    }
+
     // The bits x0, x1, x2, x3 become x1, x2, x3, x0 + x1.
     pub(crate) fn alpha(self) -> Nibble
         ensures { result.value ≡ α self.value }
     {
-        Nibble::of_bits(self.bit(1), self.bit(2), self.bit(3), self.bit(0) ^ self.bit(1))
+        let (x0, x1, x2, x3) = self.bits();
+        Nibble::of_bits(x1, x2, x3, x0 ^ x1)
     }
 
     pub(crate) fn alpha_back(self) -> Nibble
         ensures { result.value ≡ α⁻¹ self.value }
     {
-        Nibble::of_bits(self.bit(3) ^ self.bit(0), self.bit(0), self.bit(1), self.bit(2))
+        let (x0, x1, x2, x3) = self.bits();
+        Nibble::of_bits(x3 ^ x0, x0, x1, x2)
     }
 }
 

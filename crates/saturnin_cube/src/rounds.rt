@@ -29,7 +29,10 @@ impl Cube {
         ensures { nibbles result ≡ super_round⁻¹ (there shift) (back shift) (nibbles key) c.rc0 c.rc1 (nibbles self) }
     {
         let s = self.plus_subkey(key, c);
-        let s = s.moved(Move::There(shift)).mixed_back().moved(Move::Back(shift));
+        let s = s
+            .moved(Move::There(shift))
+            .mixed_back()
+            .moved(Move::Back(shift));
         s.s_boxes_back().mixed_back().s_boxes_back()
     }
 

@@ -25,7 +25,12 @@ impl Row {
         ensures { (y : ℕ) → y < 4 → of_row result y ≡ at (bit_of c.rc0 b ∷ 0 ∷ bit_of c.rc1 b ∷ 0 ∷ []) y }
     {
         Row {
-            nibbles: [bit(c.rc0, b).into(), false.into(), bit(c.rc1, b).into(), false.into()],
+            nibbles: [
+                bit(c.rc0, b).into(),
+                false.into(),
+                bit(c.rc1, b).into(),
+                false.into(),
+            ],
         }
     }
 }

@@ -16,7 +16,7 @@ pub(crate) struct Quad {
 }
 
 impl Quad {
-    // What the two S-boxes share; each then orders the four words in its own way.
+    // What the two S-boxes share; each then orders the four words in its own way, which as an argument would be no plainer.
     fn sigma(self) -> Quad
         ensures zero { (p : ℕ) → across result.b result.c result.d result.a p ≡ σ₀ (quad self p) }
         ensures one { (p : ℕ) → across result.d result.b result.a result.c p ≡ σ₁ (quad self p) }

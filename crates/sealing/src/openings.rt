@@ -48,7 +48,7 @@ fn opened<'a, C: Cipher>(
         ((result ≡ Ok (length_of bytes.now)) × (take (length_of bytes.now) room.new ≡ message_of (C.Cipher.forward cipher.now) key.now bytes.now)) }
 {
     let n = text_length(bytes)?;
-    let data = associated(place, &bytes[16..64]);
+    let data = associated(place, bytes[16..64].as_array().unwrap());
     let under = Cascade {
         cipher,
         key,

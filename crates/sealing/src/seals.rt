@@ -1,4 +1,4 @@
-ghost use Rattle.std.specs.Prelude.{◌≡◌, ◌++◌, length};
+ghost use Rattle.std.specs.Prelude.{◌≡◌, ◌++◌};
 ghost use Rattle.octets.specs.Octets.{big_endian};
 ghost use Rattle.sheets.specs.Sheets.{associated as associated_of};
 ghost use Rattle.sealing.specs.Sealing.{SealsSheet};
@@ -51,8 +51,7 @@ fn head_of(label: &[u8; 46], length: u16) -> [u8; 48]
 }
 
 // The place and the bytes 16 to 63 of a record.
-pub(crate) fn associated(place: u32, head: &[u8]) -> [u8; 52]
-    requires { length head.now ≡ 48 }
+pub(crate) fn associated(place: u32, head: &[u8; 48]) -> [u8; 52]
     ensures { result ≡ associated_of place head.now }
 {
     let mut data = [0; 52];

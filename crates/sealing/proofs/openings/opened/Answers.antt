@@ -1,7 +1,8 @@
 use Rattle.std.proofs.Common.{◌≡◌, length, take, Err, ap, ◌∙◌, arith, rules}
 use Rattle.std.proofs.lemmas.List.{length-take, take_at}
 use Rattle.std.proofs.lemmas.Result.{err_from_is_err_and}
-use Rattle.sheets.specs.Sheets.{length_in}
+use Rattle.octets.specs.Octets.{part}
+use Rattle.sheets.specs.Sheets.{associated, length_in}
 use Rattle.sealing.proofs.Reading.{form_refused, open_refused, open_done}
 use Rattle.sealing.proofs.openings.opened.Goals as goal
 
@@ -15,14 +16,16 @@ returns-in_err-open-clause-opens g c =
     let f = g.C.Cipher.forward c.args.cipher.now in
     let key-long : length c.args.key.now ≡ 32 = search rules in
     let ok = c.in_ok-n.ensures in
+    let head : c.unwrap.result.now ≡ part 16 48 c.args.bytes.now = search rules in
     let room : length (take c.in_ok-n.n c.args.room.now) ≡ c.in_ok-n.n = length-take c.in_ok-n.n c.args.room.now ∙ omega (arith, ok.0, ok.2.0) in
     let p = err_from_is_err_and c.from_residual-in_err-open.result c.from_residual-in_err-open.ensures.1 in
-    open_refused f c.args.key.now c.args.place c.args.bytes.now c.in_ok-n.n key-long c.told-bytes ok.0 ok.1 ok.2 c.associated-data.result _ _ _ c.associated-data.ensures room c.open.ensures.opens _ _ _ c.in_err-open.was (p.1 ∙ ap Err p.2)
+    open_refused f c.args.key.now c.args.place c.args.bytes.now c.in_ok-n.n key-long c.told-bytes ok.0 ok.1 ok.2 c.associated-data.result _ _ _ (c.associated-data.ensures ∙ ap (associated c.args.place) head) room c.open.ensures.opens _ _ _ c.in_err-open.was (p.1 ∙ ap Err p.2)
 
 pub returns-clause-opens : goal.returns-clause-opens
 returns-clause-opens g c =
     let f = g.C.Cipher.forward c.args.cipher.now in
     let key-long : length c.args.key.now ≡ 32 = search rules in
     let ok = c.in_ok-n.ensures in
+    let head : c.unwrap.result.now ≡ part 16 48 c.args.bytes.now = search rules in
     let room : length (take c.in_ok-n.n c.args.room.now) ≡ c.in_ok-n.n = length-take c.in_ok-n.n c.args.room.now ∙ omega (arith, ok.0, ok.2.0) in
-    open_done f c.args.key.now c.args.place c.args.bytes.now c.in_ok-n.n key-long c.told-bytes ok.0 ok.1 ok.2 c.associated-data.result _ _ _ c.associated-data.ensures room c.open.ensures.opens _ c.in_ok-open.was (take_at c.open.new.out _ (length_in c.args.bytes.now) (c.open.auto.out ∙ room ∙ ok.0))
+    open_done f c.args.key.now c.args.place c.args.bytes.now c.in_ok-n.n key-long c.told-bytes ok.0 ok.1 ok.2 c.associated-data.result _ _ _ (c.associated-data.ensures ∙ ap (associated c.args.place) head) room c.open.ensures.opens _ c.in_ok-open.was (take_at c.open.new.out _ (length_in c.args.bytes.now) (c.open.auto.out ∙ room ∙ ok.0))

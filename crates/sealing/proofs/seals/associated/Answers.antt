@@ -12,6 +12,6 @@ returns c =
     let z : length (zeros 52) ≡ 52 = length-replicate {A = ℕ} 52 0 in
     let four : length place ≡ 4 = ap length c.to_be_bytes.ensures in
     let long : length c.paste.new.bytes ≡ 52 = search rules in
-    c.paste-2.ensures.fitting (omega (arith, c.requires, long))
+    c.paste-2.ensures.fitting (omega (arith, c.told-head, long))
     ∙ ap₂ (λ k t. written k head t) (sym four) (c.paste.ensures.fitting (omega (arith, four, z)))
-    ∙ two_parts place head (zeros 52) (omega (arith, z, four, c.requires)) ∙ ap (λ t. t ++ head) (c.to_be_bytes.ensures ∙ four_bytes c.args.place)
+    ∙ two_parts place head (zeros 52) (omega (arith, z, four, c.told-head)) ∙ ap (λ t. t ++ head) (c.to_be_bytes.ensures ∙ four_bytes c.args.place)

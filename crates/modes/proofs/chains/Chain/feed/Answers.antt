@@ -15,7 +15,7 @@ loop-block-preserved g c =
       cipher = c.loop-block.invariant.cipher;
       value =
           c.link-self.ensures ∙ links_step _ _ _ _ c.args.bytes.now _ _ _ _ _ i
-          (ap g.C.Cipher.forward c.loop-block.invariant.cipher) c.for_blocks.ensures.0 c.for_blocks.ensures.1 c.loop-block.invariant.value
+          (ap g.C.Cipher.forward c.loop-block.invariant.cipher) refl refl c.loop-block.invariant.value
           (ap (λ t. get_or t i []) c.as_chunks.ensures.front ∙ block_of (length c.args.bytes.now / 32) c.args.bytes.now i [] within);
     }
 
@@ -27,6 +27,6 @@ returns g c =
     let turned : length c.args.bytes.now / 32 * 32 ≡ 32 * (length c.args.bytes.now / 32) = omega arith in
     record {
       cipher = c.loop-block.invariant.cipher;
-      value = c.loop-block.invariant.value ∙ ap (links f g.P.Part.of_blocks g.P.Part.rounds c.args.self.now.value c.args.bytes.now) all;
+      value = c.loop-block.invariant.value ∙ ap (links f g.row.D g.row.R c.args.self.now.value c.args.bytes.now) all;
       tail = c.pad-self.ensures ∙ ap (padded 32) (c.as_chunks.ensures.back ∙ ap (λ n. drop n c.args.bytes.now) turned);
     }

@@ -4,4 +4,4 @@ use Rattle.saturnin_cube.proofs.nibble.Nibble.alpha.Goals as goal
 
 pub returns : goal.returns
 unfolding α
-returns c = let sum = flag_xor c.bit-4.result c.bit-5.result in cc
+returns c = let sum = flag_xor c.bits-x0.result.0 c.bits-x0.result.1 in cc

@@ -4,4 +4,4 @@ use Rattle.saturnin_cube.proofs.nibble.Nibble.alpha_back.Goals as goal
 
 pub returns : goal.returns
 unfolding α⁻¹
-returns c = let sum = flag_xor c.bit.result c.bit-2.result in cc
+returns c = let sum = flag_xor c.bits-x0.result.3 c.bits-x0.result.0 in cc

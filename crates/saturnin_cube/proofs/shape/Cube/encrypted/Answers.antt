@@ -1,4 +1,4 @@
-use Rattle.std.proofs.Common.{◌≡◌, refl, ap, ◌∙◌, arith, length-take}
+use Rattle.std.proofs.Common.{refl, ap, ◌∙◌, arith}
 use Rattle.saturnin.specs.Rounds.{rounds}
 use Rattle.saturnin.proofs.TwoRounds.{slices, sheets}
 use Rattle.saturnin_cube.specs.Nibbles.{nibbles}

@@ -1,11 +1,11 @@
-use Rattle.std.proofs.Common.{◌+◌, ◌*◌, ◌/◌, ◌%◌, ◌^◌, refl, ap, ◌∙◌, add_comm, arith}
+use Rattle.std.proofs.Common.{◌*◌, ◌/◌, ◌%◌, refl, ap, ◌∙◌, add_comm, arith}
 use Rattle.std.specs.Int.{from_bool}
 use Rattle.saturnin.specs.Bits.{bit, number}
 use Rattle.saturnin.specs.Cube.{at, cube_register}
 use Rattle.saturnin_cube.specs.Nibbles.{nibbles}
 use Rattle.saturnin_cube.proofs.Flags.{flag_lt}
 use Rattle.saturnin_cube.proofs.Nibbles.{row_is}
-use Rattle.saturnin_cube.proofs.Loads.{Has_bits, bit_in, bit_more}
+use Rattle.saturnin_cube.proofs.Loads.{bit_in, bit_more}
 use Rattle.saturnin_cube.proofs.shape.Cube.register.Goals as goal
 
 pub loop-b-init : goal.loop-b-init

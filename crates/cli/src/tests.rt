@@ -1,4 +1,5 @@
 use super::*;
+use desk::Unmade;
 use std::fs;
 use std::test::Fail;
 
@@ -28,7 +29,7 @@ fn locks_and_unlocks(rt: HostRuntime) -> Result<(), Fail> {
 
 fn refusal(done: Result<(), Problem>) -> u8 {
     match done {
-        Err(Problem::Refused(fault)) => fault.number(),
+        Err(Problem::Unmade(Unmade::Refused(fault))) => fault.number(),
         _ => 0,
     }
 }

@@ -1,0 +1,28 @@
+-- The words that a command is spelt by.
+use Rattle.std.specs.Prelude.{◌≡◌, ◌≤◌, ◌⊎◌, ℕ, List, [], ◌∷◌, length, codes, map, Option, Some, None, string_bytes}
+use Rattle.faults.specs.Tables.{Not}
+use Rattle.cli.specs.Commands.{IsCommand}
+use Rattle.cli.specs.declared.commands.Command.{Command}
+use Rattle.cli.specs.declared.commands.Command.TheVariants.{Help, Hash, Lock, Unlock, Tray, Plate}
+
+abbrev pub Spells : (words : List (List ℕ)) → Command → Type 0
+Spells words Help = (words ≡ codes "help" ∷ []) ⊎ (words ≡ codes "--help" ∷ [])
+Spells words (Hash files) = (words ≡ codes "hash" ∷ map string_bytes files.now) × (1 ≤ length files.now)
+Spells words (Lock None key from to) = words ≡ codes "lock" ∷ key.now ∷ from.now ∷ to.now ∷ []
+Spells words (Lock (Some nonce) key from to) = words ≡ codes "lock" ∷ codes "--nonce" ∷ nonce.now ∷ key.now ∷ from.now ∷ to.now ∷ []
+Spells words (Unlock key from to) = words ≡ codes "unlock" ∷ key.now ∷ from.now ∷ to.now ∷ []
+Spells words (Tray file) = words ≡ codes "shelf" ∷ codes "tray" ∷ file.now ∷ []
+Spells words (Plate file places) = words ≡ codes "shelf" ∷ codes "plate" ∷ file.now ∷ places.now ∷ []
+
+abbrev pub IsOfAShelf : Command → Type 0
+IsOfAShelf Help = ⊥
+IsOfAShelf (Hash files) = ⊥
+IsOfAShelf (Lock _ key from to) = ⊥
+IsOfAShelf (Unlock key from to) = ⊥
+IsOfAShelf (Tray file) = Unit {0}
+IsOfAShelf (Plate file places) = Unit {0}
+
+-- what words are read as: a command that they spell, or none where they are no command
+abbrev pub Reads : (words : List (List ℕ)) → Option Command → Type 0
+Reads words (Some command) = Spells words command
+Reads words None = Not (IsCommand words)
