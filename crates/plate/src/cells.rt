@@ -1,4 +1,4 @@
-ghost use Rattle.std.specs.Prelude.{◌≡◌, ℕ, ◌+◌, ◌<◌, ◌≤◌, length, MatchBool};
+ghost use Rattle.std.specs.Prelude.{◌≡◌, ℕ, ◌<◌, ◌≤◌, MatchBool};
 ghost use Rattle.shelf.specs.Plates.{plate_cells, cells, mark as mark_of, NoMarkAbove, used, last_cell};
 ghost use Rattle.plate.specs.Neighbours.{GapAfter, NoGapAfterAny};
 

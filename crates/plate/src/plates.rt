@@ -1,6 +1,5 @@
-ghost use Rattle.std.specs.Prelude.{◌≡◌, ℕ, ◌+◌, ◌<◌, ◌≤◌, length, Some, None};
+ghost use Rattle.std.specs.Prelude.{◌≡◌, ℕ, ◌<◌, ◌≤◌, None};
 ghost use Rattle.faults.specs.Tables.{By};
-ghost use Rattle.octets.specs.Octets.{written};
 ghost use Rattle.shelf.specs.Meaning.{Answers};
 ghost use Rattle.shelf.specs.Plates.{cells, mark, NoMarkAbove, fit_table, used as used_of, LastCell, plate, PlateStores};
 ghost use Rattle.shelf.proofs.Plates.{plate_lawful};

@@ -1,58 +1,50 @@
 -- The cells of a plate: its last cells, and how many are used.
-use Rattle.std.proofs.Common.{◌≡◌, ℕ, zero, suc, ◌+◌, ◌<◌, ◌≤◌, Bool, true, false, cond, eqb, ◌⊎◌, List, Some, None, Option, sym, refl, ap, ◌∙◌, subst, inl, inr, ⊎_elim, arith}
-use Rattle.std.proofs.lemmas.Bool.{eqb-true, eqb-false, eq-eqb, ne_eqb, cases_lt, cases_eq}
+use Rattle.std.proofs.Common.{◌≡◌, ℕ, zero, suc, ◌+◌, ◌<◌, ◌≤◌, eqb, List, Some, None, Option, refl, ap, subst, inl, inr, arith}
+use Rattle.std.proofs.lemmas.Bool.{eq-eqb, ne_eqb, cases_lt, cases_eq}
 use Rattle.faults.specs.Tables.{Not}
 use Rattle.shelf.specs.Plates.{cells, mark, last_cell, LastCell, used, FirstUnused}
 
--- the first cell of n more, or one of the n
-at_or_below : (i n : ℕ) → i < suc n → (i < n) ⊎ (i ≡ n)
-at_or_below i n h = ⊎_elim inl (λ l. inr (omega arith)) (cases_lt i n)
+-- one cell more
+pub last-here : (memory : List ℕ) (p n : ℕ) → mark memory n ≡ p + 1 → last_cell memory p (suc n) ≡ Some n
+last-here memory p n e = rw (eq-eqb (mark memory n) (p + 1) e)
+
+pub last-before : (memory : List ℕ) (p n : ℕ) → Not (mark memory n ≡ p + 1) → last_cell memory p (suc n) ≡ last_cell memory p n
+last-before memory p n h = rw (ne_eqb (mark memory n) (p + 1) h)
 
 module _ (memory : List ℕ) (p : ℕ) where
   last_more : (n : ℕ) (o : Option ℕ) → Not (mark memory n ≡ p + 1) → LastCell memory p n o → LastCell memory p (suc n) o
-  last_more n None other h = λ i l. elim (at_or_below i n l) [ inl k ↦ h i k | inr k ↦ λ e. other (subst (λ t. mark memory t ≡ p + 1) k e) ]
-  last_more n (Some j) other h = (omega (arith, h.0), h.1, λ i k l. elim (at_or_below i n l) [ inl m ↦ h.2 i k m | inr m ↦ λ e. other (subst (λ t. mark memory t ≡ p + 1) m e) ])
-
-  last_step : (n : ℕ) (b : Bool) → eqb (mark memory n) (p + 1) ≡ b → (o : Option ℕ) → LastCell memory p n o → LastCell memory p (suc n) (cond b (Some n) o)
-  last_step n true e o h = (omega arith, eqb-true (mark memory n) (p + 1) e, λ i k l. absurd (omega arith))
-  last_step n false e o h = last_more n o (eqb-false (mark memory n) (p + 1) e) h
+  last_more n None other h = λ i l e. grind arith
+  last_more n (Some j) other h = (omega (arith, h.0), h.1, λ i k l e. grind arith)
 
   -- the definition and its words agree
   pub last_law : (n : ℕ) → LastCell memory p n (last_cell memory p n)
   last_law zero = λ i l. absurd (omega arith)
-  last_law (suc n) = last_step n (eqb (mark memory n) (p + 1)) refl (last_cell memory p n) (last_law n)
+  last_law (suc n) = elim (cases_eq (mark memory n) (p + 1)) [
+    | inl e ↦ rw (last-here memory p n e) (omega arith, e, λ i k l. absurd (omega arith))
+    | inr d ↦ rw (last-before memory p n d) (last_more n (last_cell memory p n) d (last_law n))
+  ]
 
   -- there is only one
   same_last : (n : ℕ) (o o' : Option ℕ) → LastCell memory p n o → LastCell memory p n o' → o ≡ o'
   same_last n None None h k = refl
   same_last n None (Some j) h k = absurd (h j k.0 k.1)
   same_last n (Some i) None h k = absurd (k i h.0 h.1)
-  same_last n (Some i) (Some j) h k =
-      ap Some (⊎_elim (λ l. absurd (h.2 j l k.0 k.1)) (λ l. ⊎_elim (λ m. absurd (k.2 i m h.0 h.1)) (λ m. omega arith) (cases_lt j i)) (cases_lt i j))
+  same_last n (Some i) (Some j) h k = ap Some (grind arith)
 
   pub last_is : (n : ℕ) (o : Option ℕ) → LastCell memory p n o → last_cell memory p n ≡ o
   last_is n o k = same_last n (last_cell memory p n) o (last_law n) k
 
--- one cell more
-pub last-here : (memory : List ℕ) (p n : ℕ) → mark memory n ≡ p + 1 → last_cell memory p (suc n) ≡ Some n
-last-here memory p n e = ap (λ b. cond b (Some n) (last_cell memory p n)) (eq-eqb (mark memory n) (p + 1) e)
-
-pub last-before : (memory : List ℕ) (p n : ℕ) → Not (mark memory n ≡ p + 1) → last_cell memory p (suc n) ≡ last_cell memory p n
-last-before memory p n h = ap (λ b. cond b (Some n) (last_cell memory p n)) (ne_eqb (mark memory n) (p + 1) h)
-
 -- where the same cells have the mark of a place, it has the same last cell
 pub last_same : (memory memory' : List ℕ) (q n : ℕ) → ((i : ℕ) → i < n → eqb (mark memory' i) (q + 1) ≡ eqb (mark memory i) (q + 1)) → last_cell memory' q n ≡ last_cell memory q n
 last_same memory memory' q zero h = refl
-last_same memory memory' q (suc n) h =
-    let e : last_cell memory' q n ≡ last_cell memory q n = last_same memory memory' q n (λ i l. h i (omega arith)) in
-    ap (λ b. cond b (Some n) (last_cell memory' q n)) (h n (omega arith)) ∙ ap (λ o. cond (eqb (mark memory n) (q + 1)) (Some n) o) e
+last_same memory memory' q (suc n) h = rw (h n (omega arith), last_same memory memory' q n (λ i l. h i (omega arith)))
 
 module _ (memory : List ℕ) where
   pub used_more : (n : ℕ) → Not (mark memory n ≡ 0) → used memory (suc n) ≡ suc (used memory n)
-  used_more n h = ap (λ b. cond b (used memory n) (suc (used memory n))) (ne_eqb (mark memory n) 0 h)
+  used_more n h = rw (ne_eqb (mark memory n) 0 h)
 
   pub used_less : (n : ℕ) → mark memory n ≡ 0 → used memory (suc n) ≡ used memory n
-  used_less n h = ap (λ b. cond b (used memory n) (suc (used memory n))) (eq-eqb (mark memory n) 0 h)
+  used_less n h = rw (eq-eqb (mark memory n) 0 h)
 
   -- of the first n cells just the first u are used
   pub record Front (n u : ℕ) : Type 0 where
@@ -60,35 +52,20 @@ module _ (memory : List ℕ) where
     pub before : (i : ℕ) → i < u → Not (mark memory i ≡ 0)
     pub after : (i : ℕ) → u ≤ i → i < n → mark memory i ≡ 0
 
-  pub used-within : (n : ℕ) → used memory n ≤ n
-  used-within zero = omega arith
-  used-within (suc n) = elim (cases_eq (mark memory n) 0) [ inl e ↦ omega (arith, used_less n e, used-within n) | inr d ↦ omega (arith, used_more n d, used-within n) ]
-
   -- the count of used cells says where the unused begin, as long as none of them is followed by a used one
   pub front_used : (n : ℕ) → ((i j : ℕ) → i < j → j < n → mark memory i ≡ 0 → mark memory j ≡ 0) → Front n (used memory n)
   front_used zero h = record { within = omega arith; before = λ i l. absurd (omega arith); after = λ i k l. absurd (omega arith) }
   front_used (suc n) h =
       let f : Front n (used memory n) = front_used n (λ i j k l. h i j k (omega arith)) in
       elim (cases_eq (mark memory n) 0) [
-        | inl e ↦ subst (Front (suc n)) (sym (used_less n e)) (record {
-          within = omega (arith, f.within);
-          before = f.before;
-          after = λ i k l. elim (at_or_below i n l) [ inl m ↦ f.after i k m | inr m ↦ subst (λ t. mark memory t ≡ 0) (sym m) e ];
-        })
+        | inl e ↦ rw (used_less n e) (record { within = omega (arith, f.within); before = f.before; after = λ i k l. grind (arith, f) })
         | inr d ↦
-            let whole : used memory n ≡ n = ⊎_elim (λ l. absurd (d (h (used memory n) n l (omega arith) (f.after (used memory n) (omega arith) l)))) (λ l. omega (arith, f.within)) (cases_lt (used memory n) n) in
-            subst (Front (suc n)) (sym (used_more n d)) (record {
-              within = omega (arith, whole);
-              before = λ i l. elim (at_or_below i n (omega (arith, whole))) [ inl m ↦ f.before i (omega (arith, whole)) | inr m ↦ λ e. d (subst (λ t. mark memory t ≡ 0) m e) ];
-              after = λ i k l. absurd (omega (arith, whole));
-            })
+            let whole : used memory n ≡ n = elim (cases_lt (used memory n) n) [ inl l ↦ absurd (d (h (used memory n) n l (omega arith) (f.after (used memory n) (omega arith) l))) | inr l ↦ omega (arith, f.within) ] in
+            rw (used_more n d) (record { within = omega (arith, whole); before = λ i l e. grind (arith, f); after = λ i k l. absurd (omega (arith, whole)) })
       ]
 
   pub front_one : (n u v : ℕ) → Front n u → Front n v → u ≡ v
-  front_one n u v f g =
-      ⊎_elim (λ l. absurd (g.before u l (f.after u (omega arith) (omega (arith, g.within)))))
-      (λ l. ⊎_elim (λ k. absurd (f.before v k (g.after v (omega arith) (omega (arith, f.within))))) (λ k. omega arith) (cases_lt v u))
-      (cases_lt u v)
+  front_one n u v f g = grind (arith, f, g)
 
   pub first-unused : (u : ℕ) → Front (cells memory) u → u < cells memory → FirstUnused memory u
   first-unused u f l = record { within = l; unused = f.after u (omega arith) l; before = f.before }
@@ -97,5 +74,5 @@ module _ (memory : List ℕ) where
   pub no_gap : (n : ℕ) → ((j : ℕ) → j + 1 < n → mark memory j ≡ 0 → mark memory (j + 1) ≡ 0) → (i j : ℕ) → i < j → j < n → mark memory i ≡ 0 → mark memory j ≡ 0
   no_gap n h i zero l k e = absurd (omega arith)
   no_gap n h i (suc j) l k e =
-      let a : suc j ≡ j + 1 = omega arith in
-      subst (λ t. mark memory t ≡ 0) (sym a) (h j (omega arith) (elim (at_or_below i j l) [ inl m ↦ no_gap n h i j m (omega arith) e | inr m ↦ subst (λ t. mark memory t ≡ 0) m e ]))
+      let before : mark memory j ≡ 0 = elim (cases_lt i j) [ inl m ↦ no_gap n h i j m (omega arith) e | inr m ↦ subst (λ t. mark memory t ≡ 0) (omega arith) e ] in
+      subst (λ t. mark memory t ≡ 0) (omega arith) (h j (omega arith) before)

@@ -1,5 +1,5 @@
 -- Plates are shelves.
-use Rattle.std.proofs.Common.{◌≡◌, ℕ, ◌+◌, ◌*◌, ◌/◌, ◌%◌, ◌<◌, ◌≤◌, eqb, ltb, ◌⊎◌, List, ◌++◌, length, get_or, drop, Some, None, Ok, Option, sym, refl, ap, ◌∙◌, subst, ap₂, inl, inr, ⊎_elim, arith}
+use Rattle.std.proofs.Common.{◌≡◌, ℕ, ◌+◌, ◌*◌, ◌/◌, ◌%◌, ◌<◌, ◌≤◌, eqb, ltb, ◌⊎◌, List, ◌++◌, length, get_or, Some, None, Ok, Option, sym, refl, ap, ◌∙◌, subst, ap₂, inl, inr, arith}
 use Rattle.std.proofs.lemmas.List.{length-take, length-drop, length-replicate}
 use Rattle.std.proofs.lemmas.Bool.{ltb-true, lt-ltb, ne_eqb, cases_lt, cases_eq, and_parts, and_from}
 use Rattle.faults.specs.Tables.{Not}
@@ -63,32 +63,31 @@ module _ (memory bytes memory' : List ℕ) (places p : ℕ) (fit : Fit memory pl
   unfolding from
   fits = omega (arith, cell-long, room)
 
-  after : (P : List ℕ → Type 0) → P (written from cell memory) → P memory'
+  e' : memory' ≡ written from cell memory
   unfolding from cell u
-  after P h = subst P (sym e) h
+  e' = e
 
   long : length memory' ≡ length memory
-  long = after (λ m. length m ≡ length memory) (length-written from cell memory fits)
+  long = rw e' (length-written from cell memory fits)
 
   same_cells : cells memory' ≡ cells memory
   same_cells = ap plate_cells long
 
   byte_apart : (i : ℕ) → (i < from) ⊎ (from + length cell ≤ i) → get_or memory' i 0 ≡ get_or memory i 0
-  byte_apart i h = after (λ m. get_or m i 0 ≡ get_or memory i 0) (get_or-apart from cell memory fits i h)
+  byte_apart i h = rw e' (get_or-apart from cell memory fits i h)
 
   byte_here : (i : ℕ) → i < length cell → get_or memory' (from + i) 0 ≡ get_or cell i 0
-  byte_here i h = after (λ m. get_or m (from + i) 0 ≡ get_or cell i 0) (get_or-written from cell memory fits i h)
+  byte_here i h = ap (λ m. get_or m (from + i) 0) e' ∙ get_or-written from cell memory fits i h
 
   apart : (j : ℕ) → Not (j ≡ u) → (j < u) ⊎ (u < j)
-  apart j ne = ⊎_elim inl (λ l. inr (omega arith)) (cases_lt j u)
-
-  mark_by : (j : ℕ) → (j < u) ⊎ (u < j) → mark memory' j ≡ mark memory j
-  unfolding from
-  mark_by j (inl l) = ap₂ (λ a b. 256 * a + b) (byte_apart (1026 * j) (inl (omega arith))) (byte_apart (1026 * j + 1) (inl (omega arith)))
-  mark_by j (inr l) = ap₂ (λ a b. 256 * a + b) (byte_apart (1026 * j) (inr (omega (arith, cell-long)))) (byte_apart (1026 * j + 1) (inr (omega (arith, cell-long))))
+  apart j ne = elim (cases_lt j u) [ inl l ↦ inl l | inr l ↦ inr (omega arith) ]
 
   mark-apart : (j : ℕ) → Not (j ≡ u) → mark memory' j ≡ mark memory j
-  mark-apart j ne = mark_by j (apart j ne)
+  unfolding from
+  mark-apart j ne = elim (apart j ne) [
+    | inl l ↦ ap₂ (λ a b. 256 * a + b) (byte_apart (1026 * j) (inl (omega arith))) (byte_apart (1026 * j + 1) (inl (omega arith)))
+    | inr l ↦ ap₂ (λ a b. 256 * a + b) (byte_apart (1026 * j) (inr (omega (arith, cell-long)))) (byte_apart (1026 * j + 1) (inr (omega (arith, cell-long))))
+  ]
 
   mark-here : mark memory' u ≡ p + 1
   unfolding from cell big_endian
@@ -97,13 +96,10 @@ module _ (memory bytes memory' : List ℕ) (places p : ℕ) (fit : Fit memory pl
       let b : get_or memory' (1026 * u + 1) 0 ≡ (p + 1) % 256 = byte_here 1 (omega (arith, cell-long)) in
       ap₂ (λ x y. 256 * x + y) a b ∙ omega (arith, inside, fit.few)
 
-  record_by : (j : ℕ) → (j < u) ⊎ (u < j) → cell_bytes memory' j ≡ cell_bytes memory j
-  unfolding from
-  record_by j (inl l) = after (λ m. cell_bytes m j ≡ cell_bytes memory j) (part_below from cell memory fits (1026 * j + 2) 1024 (omega arith))
-  record_by j (inr l) = after (λ m. cell_bytes m j ≡ cell_bytes memory j) (part_above from cell memory fits (1026 * j + 2) 1024 (omega (arith, cell-long)))
-
   record_apart : (j : ℕ) → Not (j ≡ u) → cell_bytes memory' j ≡ cell_bytes memory j
-  record_apart j ne = record_by j (apart j ne)
+  unfolding from
+  record_apart j ne =
+      rw e' (elim (apart j ne) [ inl l ↦ part_below from cell memory fits (1026 * j + 2) 1024 (omega arith) | inr l ↦ part_above from cell memory fits (1026 * j + 2) 1024 (omega (arith, cell-long)) ])
 
   record_here : cell_bytes memory' u ≡ bytes
   unfolding from cell
@@ -112,11 +108,11 @@ module _ (memory bytes memory' : List ℕ) (places p : ℕ) (fit : Fit memory pl
       let two : length sign ≡ 2 = mark-long (p + 1) in
       let fits' : from + length sign + length bytes ≤ length memory = omega (arith, fits, cell-long, two, size) in
       let later : List ℕ = written (from + length sign) bytes memory in
-      after (λ m. cell_bytes m u ≡ bytes)
-      (ap (part (from + 2) 1024) (sym (written-before from sign bytes memory fits'))
+      ap (λ m. cell_bytes m u) e'
+      ∙ ap (part (from + 2) 1024) (sym (written-before from sign bytes memory fits'))
       ∙ part_above from sign later (omega (arith, length-written (from + length sign) bytes memory fits', fits')) (from + 2) 1024 (omega (arith, two))
       ∙ ap (λ n. part n 1024 later) (omega (arith, two))
-      ∙ part-written (from + length sign) bytes memory fits' 1024 (sym size))
+      ∙ part-written (from + length sign) bytes memory fits' 1024 (sym size)
 
   front : Front memory (cells memory) u
   unfolding u
@@ -130,13 +126,13 @@ module _ (memory bytes memory' : List ℕ) (places p : ℕ) (fit : Fit memory pl
   }
 
   gap' : (i j : ℕ) → i < j → j < cells memory → mark memory' i ≡ 0 → mark memory' j ≡ 0
-  gap' i j l k z = ⊎_elim (λ m. absurd (front'.before i m z)) (λ m. front'.after j (omega arith) k) (cases_lt i (u + 1))
+  gap' i j l k z = grind (arith, front')
 
   used' : used memory' (cells memory) ≡ u + 1
   used' = front_one memory' (cells memory) _ (u + 1) (front_used memory' (cells memory) gap') front'
 
   marks' : (j : ℕ) → j < cells memory → mark memory' j ≤ places
-  marks' j l = elim (cases_eq j u) [ inl h ↦ subst (λ t. mark memory' t ≤ places) (sym h) (omega (arith, mark-here, inside)) | inr h ↦ omega (arith, mark-apart j h, fit.marks j l) ]
+  marks' j l = elim (cases_eq j u) [ inl h ↦ rw h (omega (arith, mark-here, inside)) | inr h ↦ omega (arith, mark-apart j h, fit.marks j l) ]
 
   last-here : last_cell memory' p (cells memory) ≡ Some u
   last-here = last_is memory' p (cells memory) (Some u) (room, mark-here, λ i k l z. omega (arith, front'.after i (omega arith) l, z))
@@ -156,11 +152,8 @@ module _ (memory bytes memory' : List ℕ) (places p : ℕ) (fit : Fit memory pl
   unfolding u
   plate_puts = put_done (plate memory places) p bytes (plate memory' places) allowed (record {
     count = refl;
-    here = ap (λ n. held memory' (last_cell memory' p n)) same_cells ∙ ap (held memory') last-here ∙ record_here;
-    elsewhere = λ q l ne.
-        ap (λ n. held memory' (last_cell memory' q n)) same_cells
-        ∙ ap (held memory') (last_same memory memory' q (cells memory) (same_mark q ne))
-        ∙ held_same q (last_cell memory q (cells memory)) (last_law memory q (cells memory));
+    here = rw (same_cells, last-here) record_here;
+    elsewhere = λ q l ne. rw (same_cells, last_same memory memory' q (cells memory) (same_mark q ne)) (held_same q (last_cell memory q (cells memory)) (last_law memory q (cells memory)));
     opens_none = λ q o. and_from (ltb q places) (ltb u (cells memory)) (and_parts (ltb q places) (ltb (used memory' (cells memory')) (cells memory')) o).0 (lt-ltb u (cells memory) room);
   })
 
@@ -170,17 +163,12 @@ module _ (memory bytes memory' : List ℕ) (places p : ℕ) (fit : Fit memory pl
     cell = u;
     first = first-unused memory u front room;
     all = e;
-    spare = after (λ m. drop (1026 * cells memory) m ≡ drop (1026 * cells memory) memory) (drop-written from cell memory fits (1026 * cells memory) (omega (arith, cell-long, room)));
+    spare = rw e (drop-written from cell memory fits (1026 * cells memory) (omega (arith, cell-long, room)));
   }
 
   pub plate_counted : used memory (cells memory) + 1 ≡ used memory' (cells memory')
   unfolding u
-  plate_counted = sym used' ∙ ap (used memory') (sym same_cells)
+  plate_counted = rw same_cells (sym used')
 
   pub plate_fit : Fit memory' places
-  plate_fit = record {
-    some = fit.some;
-    few = fit.few;
-    marks = subst (λ n. (j : ℕ) → j < n → mark memory' j ≤ places) (sym same_cells) marks';
-    order = subst (λ n. (i j : ℕ) → i < j → j < n → mark memory' i ≡ 0 → mark memory' j ≡ 0) (sym same_cells) gap';
-  }
+  plate_fit = record { some = fit.some; few = fit.few; marks = rw same_cells marks'; order = rw same_cells gap' }
