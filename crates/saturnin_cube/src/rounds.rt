@@ -37,7 +37,7 @@ impl Cube {
     }
 
     // The key is added, and then come r super-rounds: with the rotated key and the shift in slices at even i, with the key and
-    // the shift in sheets at odd i.
+    // the shift in sheets at odd i. An `if` on i says so as the definition does; a step handed in would be no plainer.
     pub(crate) fn encrypted(self, key: Cube, by: Parameters) -> Cube
         ensures { nibbles result ≡ rounds (nibbles key) by.d by.r (2 * by.r) (add (nibbles key) (nibbles self)) }
     {

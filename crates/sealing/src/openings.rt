@@ -21,6 +21,7 @@ pub fn open_sheet<C: Cipher>(
     ensures { OpensSheet (C.Cipher.forward cipher.now) key.now place bytes.old result bytes.new }
 {
     let number = number_in(bytes);
+    // Room of a fixed size, with a length beside it: a box has no heap.
     let mut room = [0; 928];
     match opened(cipher, key, place, bytes, &mut room) {
         Ok(length) => {
