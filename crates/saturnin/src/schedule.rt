@@ -34,7 +34,8 @@ impl Schedule {
     }
 }
 
-// A polynomial is given by its taps, the terms below X^16.
+// A polynomial is given by its taps, the terms below X^16. Taps and word are handed on as two numbers: a type for the pair would
+// be no plainer.
 fn clockings(taps: u16, start: u16) -> [u16; 31]
     ensures { result ≡ table 31 (λ i. clocked (65536 + taps) start (16 * (i + 1))) }
 {
