@@ -60,6 +60,7 @@ pub struct ModeFault {
     pub cause: ModeCause,
 }
 
+// The faults that have a place are two types: as one, over its cause, each definition that names a fault would be longer.
 #[derive(Clone, Copy, PartialEq, Eq, Debug)]
 pub struct ShelfFault {
     pub cause: ShelfCause,

@@ -5,16 +5,16 @@ use Rattle.faults.specs.declared.ModeCause.TheVariants.{Tag}
 use Rattle.faults.specs.declared.ModeFault.{ModeFault}
 use Rattle.saturnin.specs.Cube.{at}
 use Rattle.saturnin.specs.Meaning.{Bytes, BlockFunction, GivesBlocks}
-use Rattle.octets.specs.Octets.{zeros}
+use Rattle.octets.specs.Octets.{Octets, zeros}
 use Rattle.modes.specs.Cascade.{ctr, tag, Opens}
-use Rattle.modes.proofs.Texts.{Small, take-bytes}
+use Rattle.modes.proofs.Texts.{take-bytes}
 use Rattle.modes.proofs.Streams.{ctr_twice}
 use Rattle.modes.proofs.Blocks.{drop-bytes, tag-bytes, ctr-bytes}
 use Rattle.modes.proofs.Exactly.{stable_same}
 use Rattle.locked.specs.Locked.{magic, locked, Holds, Unlocks}
 use Rattle.locked.proofs.Parts.{in_parts, part-magic, part-nonce, part_rest}
 
-magic-bytes : Small magic
+magic-bytes : Octets magic
 magic-bytes zero = lit< tt
 magic-bytes (suc zero) = lit< tt
 magic-bytes (suc (suc zero)) = lit< tt
@@ -44,7 +44,7 @@ module _ (f : BlockFunction) (key file : List ℕ) where
   }
 
   -- and what opens where a message is held
-  module _ (gives : GivesBlocks f) (kb : Bytes 32 key) (fb : Small file) (message : List ℕ) (h : Holds f key file message) where
+  module _ (gives : GivesBlocks f) (kb : Bytes 32 key) (fb : Octets file) (message : List ℕ) (h : Holds f key file message) where
     text : List ℕ
     text = ctr f key h.nonce message
 
@@ -64,8 +64,8 @@ module _ (f : BlockFunction) (key file : List ℕ) where
     held_rest : drop 24 file ≡ sign ++ text
     held_rest = ap (drop 24) laid ∙ part_rest magic h.nonce (sign ++ text) refl h.nonce_long
 
-    nonce-bytes : Small h.nonce
-    nonce-bytes = subst Small held-nonce (take-bytes (drop 4 file) 20 (drop-bytes file 4 fb))
+    nonce-bytes : Octets h.nonce
+    nonce-bytes = subst Octets held-nonce (take-bytes (drop 4 file) 20 (drop-bytes file 4 fb))
 
     sign-long : length sign ≡ 32
     unfolding sign text
@@ -78,7 +78,7 @@ module _ (f : BlockFunction) (key file : List ℕ) where
         ap (take 32) held_rest ∙ take_at sign text 32 sign-long ∙ ap₂ (λ n t. tag f key n magic t) (sym held-nonce) (sym t)
 
 -- an unlocking of a file of the right length, with the magic word, by what the opening of its parts answered
-module _ (f : BlockFunction) (gives : GivesBlocks f) (key file out : List ℕ) (kb : Small key) (fb : Small file) (answer : Result (Unit {0}) ModeFault) (out' : List ℕ) (ob : Small out')
+module _ (f : BlockFunction) (gives : GivesBlocks f) (key file out : List ℕ) (kb : Octets key) (fb : Octets file) (answer : Result (Unit {0}) ModeFault) (out' : List ℕ) (ob : Octets out')
     (kl : length key ≡ 32) (fl : length file ≡ 56 + length out) (few : length out ≤ 65536) where
   pub other_word : (take 4 file ≡ magic → ⊥) → answer ≡ Err (record { cause = Tag }) → out' ≡ zeros (length out) → Unlocks f key file out answer out'
   other_word differs e z = (λ h. absurd (h (kl, fl)), λ n. (λ h. absurd (omega arith), λ m. (λ no. (e, z), λ nn. absurd (nn (λ w. differs (held-magic f key file gives (kl, kb) fb w.0 w.1))))))

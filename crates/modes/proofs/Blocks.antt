@@ -8,11 +8,12 @@ use Rattle.modes.specs.Bytes.{xor, padded, full_blocks, block_at, tail_of}
 use Rattle.modes.specs.Chains.{link, links, chain}
 use Rattle.modes.specs.Counters.{counter_block}
 use Rattle.modes.specs.Cascade.{keystream, masked, ctr, tag}
-use Rattle.modes.proofs.Texts.{Small, length-xor, get_or-xor, length-padded, padded-bytes, take-bytes}
+use Rattle.modes.proofs.Texts.{length-xor, get_or-xor, length-padded, padded-bytes, take-bytes}
 use Rattle.modes.proofs.Counting.{big_endian_bytes, length-big_endian}
 use Rattle.modes.proofs.Streams.{length-ctr, get_or-ctr}
+use Rattle.octets.specs.Octets.{Octets}
 
-pub drop-bytes : (xs : List ℕ) (n : ℕ) → Small xs → Small (drop n xs)
+pub drop-bytes : (xs : List ℕ) (n : ℕ) → Octets xs → Octets (drop n xs)
 drop-bytes xs n b i = omega (arith, get_or-drop n xs i 0, b (n + i))
 
 xor_bytes : (a b : List ℕ) → Bytes 32 a → Bytes 32 b → Bytes 32 (xor a b)
@@ -25,10 +26,10 @@ xor_bytes a b p q =
       ],
     )
 
-padded_block : (m : List ℕ) → length m ≤ 31 → Small m → Bytes 32 (padded 32 m)
+padded_block : (m : List ℕ) → length m ≤ 31 → Octets m → Bytes 32 (padded 32 m)
 padded_block m h b = (length-padded 32 m (omega arith), padded-bytes 32 m b)
 
-pub counter_bytes : (nonce : List ℕ) (c : ℕ) → length nonce ≤ 20 → Small nonce → Bytes 32 (counter_block nonce c)
+pub counter_bytes : (nonce : List ℕ) (c : ℕ) → length nonce ≤ 20 → Octets nonce → Bytes 32 (counter_block nonce c)
 unfolding counter_block
 counter_bytes nonce c h b = xor_bytes (padded 32 nonce) _ (padded_block nonce (omega arith) b) (length-big_endian 32 c, big_endian_bytes 32 c)
 
@@ -41,26 +42,26 @@ module _ (f : BlockFunction) (gives : GivesBlocks f) where
     unfolding link
     link-bytes t a p q = xor_bytes a _ q (run_bytes D R t a d e g p q)
 
-    links-bytes : (t bytes : List ℕ) (n : ℕ) → Bytes 32 t → Small bytes → n ≤ full_blocks bytes → Bytes 32 (links f D R t bytes n)
+    links-bytes : (t bytes : List ℕ) (n : ℕ) → Bytes 32 t → Octets bytes → n ≤ full_blocks bytes → Bytes 32 (links f D R t bytes n)
     unfolding links block_at
     links-bytes t bytes zero p b h = p
     links-bytes t bytes (suc n) p b h =
         link-bytes _ _ (links-bytes t bytes n p b (omega arith)) (simp (length-take, length-drop) (omega arith), take-bytes (drop (32 * n) bytes) 32 (drop-bytes bytes (32 * n) b))
 
-  pub chain-bytes : (D last R : ℕ) → D ≤ 15 → last ≤ 15 → 10 ≤ R → R ≤ 31 → (t bytes : List ℕ) → Bytes 32 t → Small bytes → Bytes 32 (chain f D last R t bytes)
+  pub chain-bytes : (D last R : ℕ) → D ≤ 15 → last ≤ 15 → 10 ≤ R → R ≤ 31 → (t bytes : List ℕ) → Bytes 32 t → Octets bytes → Bytes 32 (chain f D last R t bytes)
   unfolding tail_of
   chain-bytes D last R d l e g t bytes p b =
       link-bytes last R l e g _ _ (links-bytes D R d e g t bytes (full_blocks bytes) p b (omega arith))
       (padded_block (tail_of bytes) (simp length-drop (omega arith)) (drop-bytes bytes (32 * full_blocks bytes) b))
 
-  module _ (key nonce : List ℕ) (kb : Bytes 32 key) (nl : length nonce ≤ 20) (nb : Small nonce) where
-    pub tag-bytes : (associated text : List ℕ) → Small associated → Small text → Bytes 32 (tag f key nonce associated text)
+  module _ (key nonce : List ℕ) (kb : Bytes 32 key) (nl : length nonce ≤ 20) (nb : Octets nonce) where
+    pub tag-bytes : (associated text : List ℕ) → Octets associated → Octets text → Bytes 32 (tag f key nonce associated text)
     unfolding tag
     tag-bytes associated text ab tb =
         chain-bytes 4 5 10 (lit≤ tt) (lit≤ tt) (lit≤ tt) (lit≤ tt) _ text
         (chain-bytes 2 3 10 (lit≤ tt) (lit≤ tt) (lit≤ tt) (lit≤ tt) _ associated (link-bytes 2 10 (lit≤ tt) (lit≤ tt) (lit≤ tt) key _ kb (counter_bytes nonce 0 nl nb)) ab) tb
 
-    pub ctr-bytes : (text : List ℕ) → Small text → Small (ctr f key nonce text)
+    pub ctr-bytes : (text : List ℕ) → Octets text → Octets (ctr f key nonce text)
     unfolding masked keystream
     ctr-bytes text b i = elim (cases_lt i (length text)) [
       | inl h ↦ rw (get_or-ctr f key nonce text i h) (xor_lt 8 (get_or text i 0) _ (b i) ((run_bytes 1 10 key _ (lit≤ tt) (lit≤ tt) (lit≤ tt) kb (counter_bytes nonce (i / 32 + 1) nl nb)).1 (i % 32)))

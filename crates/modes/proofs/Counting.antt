@@ -3,12 +3,12 @@ use Rattle.std.proofs.Common.{◌≡◌, ℕ, zero, suc, ◌+◌, ◌-◌, ◌*�
 use native.Mathlib.Nat.{mul-mul-mul_comm}
 use lib.Bits.{bit_xor, xor_block, xor_shifted}
 use Rattle.std.proofs.lemmas.List.{length-append}
-use Rattle.octets.specs.Octets.{zeros, big_endian, spelt}
+use Rattle.octets.specs.Octets.{Octets, zeros, big_endian, spelt}
 use Rattle.modes.specs.Bytes.{xor, padded}
 use Rattle.modes.specs.Counters.{counter_block, CounterHeld}
-use Rattle.modes.proofs.Texts.{Small, length-xor, append-bytes, length-padded, padded-bytes}
+use Rattle.modes.proofs.Texts.{length-xor, append-bytes, length-padded, padded-bytes}
 
-spelt-xor : (a b : List ℕ) → length a ≡ length b → Small a → Small b → (h k : ℕ) → spelt (xor a b) (bit_xor h k) ≡ bit_xor (spelt a h) (spelt b k)
+spelt-xor : (a b : List ℕ) → length a ≡ length b → Octets a → Octets b → (h k : ℕ) → spelt (xor a b) (bit_xor h k) ≡ bit_xor (spelt a h) (spelt b k)
 unfolding spelt xor
 spelt-xor [] [] l p q h k = refl
 spelt-xor [] (y ∷ b) l p q h k = absurd (omega arith)
@@ -36,11 +36,11 @@ spelt-big_endian (suc n) c h =
     let l : c / 256 < 256 ^ n = omega (arith, pow-suc 256 n) in
     spelt-append (big_endian n (c / 256)) (c % 256 ∷ []) 0 ∙ ap (λ t. t * 256 + c % 256) (spelt-big_endian n (c / 256) l) ∙ omega arith
 
-one_byte : (b : ℕ) → b < 256 → Small (b ∷ [])
+one_byte : (b : ℕ) → b < 256 → Octets (b ∷ [])
 one_byte b h zero = h
 one_byte b h (suc i) = omega arith
 
-pub big_endian_bytes : (n c : ℕ) → Small (big_endian n c)
+pub big_endian_bytes : (n c : ℕ) → Octets (big_endian n c)
 unfolding big_endian
 big_endian_bytes zero c = λ i. omega arith
 big_endian_bytes (suc n) c = append-bytes (big_endian n (c / 256)) (c % 256 ∷ []) (big_endian_bytes n (c / 256)) (one_byte (c % 256) (omega arith))
@@ -50,8 +50,8 @@ unfolding big_endian
 length-big_endian zero c = refl
 length-big_endian (suc n) c = length-append (big_endian n (c / 256)) (c % 256 ∷ []) ∙ omega (arith, length-big_endian n (c / 256))
 
-module _ (nonce : List ℕ) (bytes : Small nonce) (short : length nonce ≤ 20) where
-  small : Small (padded 32 nonce)
+module _ (nonce : List ℕ) (bytes : Octets nonce) (short : length nonce ≤ 20) where
+  small : Octets (padded 32 nonce)
   small = padded-bytes 32 nonce bytes
 
   long : length (padded 32 nonce) ≡ 32

@@ -6,6 +6,7 @@ use Rattle.std.proofs.lemmas.Bool.{cases_Bool, true≢false}
 use Rattle.faults.specs.Tables.{Not, Clear}
 use Rattle.faults.specs.declared.ModeCause.{ModeCause}
 use Rattle.faults.specs.declared.ModeFault.{ModeFault}
+use Rattle.faults.proofs.Results.{never_both}
 use Rattle.faults.proofs.Tables.{done_from_clear, done_when}
 use Rattle.saturnin.specs.Cube.{at}
 use Rattle.saturnin.specs.Meaning.{BlockFunction}
@@ -20,9 +21,6 @@ stable_same a b n =
       | inl e ↦ (bytes_eq-Decides a b).0 e
       | inr e ↦ absurd (n (λ q. true≢false (sym ((bytes_eq-Decides a b).1 q) ∙ e)))
     ]
-
-pub never_both : {X : Type 0} (x : X) (f : ModeFault) → ◌≡◌ {A = Result X ModeFault} (Ok x) (Err f) → ⊥
-never_both x f h = let z : ◌≡◌ {A = ℕ} 0 1 = cc in omega arith
 
 module _ (f : BlockFunction) (key nonce associated text sign : List ℕ) where
   only_one : (m : List ℕ) → SealsTo f key nonce associated m text sign → ctr f key nonce text ≡ m

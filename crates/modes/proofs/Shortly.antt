@@ -5,13 +5,14 @@ use Rattle.std.proofs.lemmas.List.{length-append, take_at, drop_at, get_or-appen
 use Rattle.faults.specs.Tables.{Clear}
 use Rattle.faults.specs.declared.ModeCause.{ModeCause}
 use Rattle.faults.specs.declared.ModeFault.{ModeFault}
+use Rattle.faults.proofs.Results.{never_both}
 use Rattle.faults.proofs.Tables.{done_from_clear, done_when, stable_eq}
 use Rattle.saturnin.specs.Meaning.{BlockFunction, Takes, TwoWay}
 use Rattle.modes.specs.Bytes.{padded}
 use Rattle.modes.specs.Cascade.{left}
 use Rattle.modes.specs.Short.{short, short_open_table, Holds, filled, ShortOpens, ShortSealsTo, ShortOpensExactly}
-use Rattle.modes.proofs.Texts.{Small, append-bytes, length-padded, padded_front, padded-here, padded_after, padded-bytes}
-use Rattle.modes.proofs.Exactly.{never_both}
+use Rattle.modes.proofs.Texts.{append-bytes, length-padded, padded_front, padded-here, padded_after, padded-bytes}
+use Rattle.octets.specs.Octets.{Octets}
 
 -- a padded message is that of one message only
 not_longer : (m n : List ℕ) → padded 16 m ≡ padded 16 n → length m < length n → ⊥
@@ -26,7 +27,7 @@ padded_once m n e =
     ] in
     sym (take_at m _ (length m) refl) ∙ ap (take (length m)) e ∙ ap (λ k. take k (padded 16 n)) l ∙ take_at n _ (length n) refl
 
-module _ (f g : BlockFunction) (two_way : TwoWay f g) (key nonce block : List ℕ) (kb : Small key) (nb : Small nonce) (bb : Small block) where
+module _ (f g : BlockFunction) (two_way : TwoWay f g) (key nonce block : List ℕ) (kb : Octets key) (nb : Octets nonce) (bb : Octets block) where
   same_message : length nonce ≡ 16 → (m n : List ℕ) → Holds g key nonce block m → Holds g key nonce block n → m ≡ n
   same_message l m n v w = padded_once m n (sym (drop_at nonce (padded 16 m) 16 l) ∙ ap (drop 16) (sym v.1 ∙ w.1) ∙ drop_at nonce (padded 16 n) 16 l)
 
@@ -69,7 +70,7 @@ module _ (f g : BlockFunction) (two_way : TwoWay f g) (key nonce block : List �
         let nl : length nonce ≡ 16 = stable_eq (length nonce) 16 (λ n. lengths (λ p. n p.1)) in
         let bl : length block ≡ 32 = stable_eq (length block) 32 (λ n. lengths (λ p. n p.2)) in
         let takes : Takes key 6 10 block = record { key_whole = (kl, kb); separator = lit≤ tt; enough = lit≤ tt; not_too_many = lit≤ tt; block_whole = (bl, bb) } in
-        let small : Small m = λ i. elim (cases_lt i (length m)) [
+        let small : Octets m = λ i. elim (cases_lt i (length m)) [
           | inl a ↦
               let e : get_or m i 0 ≡ get_or (g key 6 10 block) (16 + i) 0 =
               sym (padded_front 16 m i a) ∙ (let d : i ≡ 16 + i - 16 = omega arith in ap (λ k. get_or (padded 16 m) k 0) d)

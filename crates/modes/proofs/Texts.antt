@@ -4,7 +4,7 @@ use lib.Bits.{bit_xor}
 use native.Mathlib.Nat.{div-div-eq-div-mul}
 use Rattle.std.proofs.lemmas.Bool.{cases_lt}
 use Rattle.std.proofs.lemmas.List.{drop-replicate, set_at, ext_get_or, length-append, length-take, length-replicate, get_or_append_left, get_or-append_right, get_or_at, get_or-replicate, get_or_past, get_or-take}
-use Rattle.octets.specs.Octets.{zeros, big_endian}
+use Rattle.octets.specs.Octets.{Octets, zeros, big_endian}
 use Rattle.modes.specs.Bytes.{xor, padded}
 
 pub length-xor : (a b : List ℕ) → length a ≡ length b → length (xor a b) ≡ length a
@@ -42,22 +42,18 @@ wide_is n ys h e =
     let z : n / 18446744073709551616 ≡ 0 = omega arith in
     simp (e, div-div-eq-div-mul, z)
 
--- every element is a byte
-abbrev pub Small : List ℕ → Type 0
-Small bs = (i : ℕ) → get_or bs i 0 < 256
-
 pub get_or-zeros : (n i : ℕ) → get_or (zeros n) i 0 ≡ 0
 get_or-zeros n i =
     elim (cases_lt i n) [ inl h ↦ get_or-replicate n i 0 0 h | inr h ↦ get_or_past (zeros n) i 0 (simp length-replicate h) ]
 
-pub append-bytes : (a b : List ℕ) → Small a → Small b → Small (a ++ b)
+pub append-bytes : (a b : List ℕ) → Octets a → Octets b → Octets (a ++ b)
 append-bytes a b p q i =
     elim (cases_lt i (length a)) [
       | inl h ↦ omega (arith, get_or_append_left a b 0 i h, p i)
       | inr h ↦ omega (arith, get_or-append_right a b (length a) i 0 refl h, q (i - length a))
     ]
 
-pub take-bytes : (xs : List ℕ) (n : ℕ) → Small xs → Small (take n xs)
+pub take-bytes : (xs : List ℕ) (n : ℕ) → Octets xs → Octets (take n xs)
 take-bytes xs n b i =
     elim (cases_lt i n) [
       | inl h ↦ omega (arith, get_or-take n xs i 0 h, b i)
@@ -85,7 +81,7 @@ module _ (size : ℕ) (m : List ℕ) where
       get_or-append_right m (128 ∷ zeros (size - 1 - length m)) (length m) i 0 refl (omega arith)
       ∙ ap (λ k. get_or (128 ∷ zeros (size - 1 - length m)) k 0) e ∙ get_or-zeros (size - 1 - length m) (i - length m - 1)
 
-  pub padded-bytes : Small m → Small (padded size m)
+  pub padded-bytes : Octets m → Octets (padded size m)
   padded-bytes b i =
       elim (cases_lt i (length m)) [
         | inl h ↦ omega (arith, padded_front i h, b i)

@@ -38,6 +38,7 @@ impl<C: Cipher> Cascade<'_, C> {
         self.opened(text, tag, out)
     }
 
+    // What the call does; that it is exact follows from it.
     fn opened(&self, text: &[u8], tag: &[u8], out: &mut [u8]) -> Result<(), ModeFault>
         ensures { Opens (C.Cipher.forward self.now.cipher.now) self.now.key.now self.now.nonce.now self.now.associated.now text.now tag.now out.old result out.new }
     {
@@ -57,7 +58,7 @@ impl<C: Cipher> Cascade<'_, C> {
     // Whether all lengths are right, also those of the text, the output buffer and the tag.
     fn taken(&self, text: usize, out: usize, tag: usize) -> Result<Keyed<'_, C>, ModeFault>
         ensures { Checks (seal_table (length self.now.key.now) (length self.now.nonce.now) (length self.now.associated.now) text out tag)
-            (λ k. (k.cipher.now ≡ self.now.cipher.now) × (k.key.now ≡ self.now.key.now) × (k.nonce.bytes.now ≡ self.now.nonce.now)
+            (λ k. (k.cipher.now ≡ self.now.cipher.now) × (k.key.now ≡ self.now.key.now) × (k.nonce.bytes.now ≡ self.now.nonce.now) × (length self.now.nonce.now ≤ 20)
             × (length self.now.key.now ≡ 32) × (out ≡ text) × (tag ≡ 32) × (length self.now.associated.now ≤ 65536) × (text ≤ 65536)) result }
     {
         let Ok(key) = self.key.try_into() else {
@@ -86,6 +87,7 @@ struct Keyed<'a, C> {
 }
 
 impl<C: Cipher> Keyed<'_, C> {
+    #[tactic(auto, unfolding(crate::specs::Cascade::keystream))]
     fn keystream_block(&self, i: usize) -> [u8; 32]
         requires { i < 65536 }
         ensures { result ≡ keystream (C.Cipher.forward self.now.cipher.now) self.now.key.now self.now.nonce.bytes.now i }
@@ -95,7 +97,7 @@ impl<C: Cipher> Keyed<'_, C> {
             .encrypt_block(self.key, Parameters { d: 1, r: 10 }, &counter.bytes)
     }
 
-    // Counter mode, in place.
+    // Counter mode, in place. Byte by byte: of parts of `out` under `chunks_mut` the prover knows nothing after the loop.
     fn ctr(&self, out: &mut [u8])
         requires { length out.old ≤ 65536 }
         ensures { out.new ≡ masked_by (C.Cipher.forward self.now.cipher.now) self.now.key.now self.now.nonce.bytes.now out.old }
@@ -110,6 +112,7 @@ impl<C: Cipher> Keyed<'_, C> {
     }
 
     // The tag of data and ciphertext.
+    #[tactic(auto, unfolding(crate::specs::Cascade::tag))]
     fn tag(&self, associated: &[u8], text: &[u8]) -> [u8; 32]
         ensures { result ≡ tag_value (C.Cipher.forward self.now.cipher.now) self.now.key.now self.now.nonce.bytes.now associated.now text.now }
     {

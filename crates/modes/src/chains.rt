@@ -8,6 +8,7 @@ use faults::{ModeCause, ModeFault};
 use saturnin::{Cipher, Parameters};
 
 // Block `a` replaces the chain value `t`.
+#[tactic(auto, unfolding(crate::specs::Chains::link))]
 fn link<C: Cipher>(cipher: &C, by: Parameters, t: &[u8; 32], a: &[u8; 32]) -> [u8; 32]
     ensures { result ≡ linked (C.Cipher.forward cipher.now) by.d by.r t.now a.now }
 {
@@ -46,6 +47,14 @@ impl<'a, C: Cipher, const D: u8, const LAST: u8, const R: u8> Chain<'a, C, D, LA
         }
     }
 
+    fn take(&mut self, block: &[u8; 32])
+        ensures cipher { self.new.cipher.now ≡ self.old.cipher.now }
+        ensures value { self.new.value ≡ linked (C.Cipher.forward self.old.cipher.now) D R self.old.value block.now }
+        ensures tail { self.new.tail ≡ self.old.tail }
+    {
+        self.value = link(self.cipher, Parameters { d: D, r: R }, &self.value, block);
+    }
+
     fn block(&mut self, bytes: &[u8]) -> Result<(), ModeFault>
         ensures cipher { self.new.cipher.now ≡ self.old.cipher.now }
         ensures value { TakesBlock (C.Cipher.forward self.old.cipher.now) D R bytes.now self.old.value result self.new.value }
@@ -54,7 +63,7 @@ impl<'a, C: Cipher, const D: u8, const LAST: u8, const R: u8> Chain<'a, C, D, LA
         let Ok(block) = bytes.try_into() else {
             return Err(ModeCause::Length.into());
         };
-        self.value = link(self.cipher, Parameters { d: D, r: R }, &self.value, block);
+        self.take(block);
         Ok(())
     }
 
@@ -78,7 +87,7 @@ impl<'a, C: Cipher, const D: u8, const LAST: u8, const R: u8> Chain<'a, C, D, LA
     {
         let (blocks, tail) = bytes.as_chunks();
         for block in blocks {
-            self.value = link(self.cipher, Parameters { d: D, r: R }, &self.value, block);
+            self.take(block);
         }
         self.tail = pad(tail);
     }

@@ -22,6 +22,7 @@ impl<'a> Nonce<'a> {
         Ok(Nonce { bytes })
     }
 
+    #[tactic(auto, unfolding(crate::specs::Counters::counter_block))]
     pub(crate) fn counted(self, counter: u64) -> CounterBlock
         ensures { result.bytes ≡ counter_block self.entry.bytes.now counter }
     {

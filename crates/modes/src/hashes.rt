@@ -27,6 +27,7 @@ fn hashable(message: usize, digest: usize) -> Result<(), ModeFault>
     Ok(())
 }
 
+#[tactic(auto, unfolding(crate::specs::Hash::hash))]
 fn hash_of<C: Cipher>(cipher: &C, message: &[u8]) -> [u8; 32]
     ensures { result ≡ hashed (C.Cipher.forward cipher.now) message.now }
 {

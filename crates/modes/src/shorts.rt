@@ -4,13 +4,13 @@ ghost use Rattle.modes.specs.Short.{ShortSeals, ShortOpens, ShortOpensExactly};
 
 use crate::bytes::pad;
 use faults::{ModeCause, ModeFault};
-use octets::paste;
+use octets::joined;
 use saturnin::{Parameters, TwoWayCipher};
 
 const SHORT: Parameters = Parameters { d: 6, r: 10 };
 
-// Key and nonce are handed in as slices of their own, not in a struct: only of a parameter is it known that its elements are
-// bytes, and that `open_short` is exact rests on it.
+// Key and nonce are handed in as slices of their own. As fields of a struct, which was tried, they were not known to be bytes,
+// and that `open_short` is exact rests on it.
 
 // Seals a message of at most 15 bytes under a nonce of 16 into a block of 32.
 pub fn seal_short<C: TwoWayCipher>(
@@ -22,10 +22,10 @@ pub fn seal_short<C: TwoWayCipher>(
 ) -> Result<(), ModeFault>
     ensures { ShortSeals (C.Cipher.forward cipher.now) key.now nonce.now message.now block.old result block.new }
 {
-    let Ok(key) = key.try_into() else {
+    let (Ok(key), Ok(nonce)) = (key.try_into(), nonce.try_into()) else {
         return Err(ModeCause::Length.into());
     };
-    if nonce.len() != 16 || block.len() != 32 {
+    if block.len() != 32 {
         return Err(ModeCause::Length.into());
     }
     if message.len() > 15 {
@@ -51,6 +51,7 @@ pub fn open_short<C: TwoWayCipher>(
     opened(cipher, key, nonce, block, out)
 }
 
+// What the call does; that it is exact follows from it.
 fn opened<C: TwoWayCipher>(
     cipher: &C,
     key: &[u8],
@@ -60,10 +61,11 @@ fn opened<C: TwoWayCipher>(
 ) -> Result<usize, ModeFault>
     ensures { ShortOpens (C.TwoWayCipher.back cipher.now) key.now nonce.now block.now out.old result out.new }
 {
-    let (Ok(key), Ok(block)) = (key.try_into(), block.try_into()) else {
+    let (Ok(key), Ok(nonce), Ok(block)) = (key.try_into(), nonce.try_into(), block.try_into())
+    else {
         return Err(ModeCause::Length.into());
     };
-    if nonce.len() != 16 || out.len() != 15 {
+    if out.len() != 15 {
         return Err(ModeCause::Length.into());
     }
     let plain = cipher.decrypt_block(key, SHORT, block);
@@ -76,24 +78,20 @@ fn opened<C: TwoWayCipher>(
 }
 
 // The nonce, the message, 0x80 and zeros.
-fn short_block(nonce: &[u8], message: &[u8]) -> [u8; 32]
-    requires { (length nonce.now ≡ 16) × (length message.now ≤ 15) }
+fn short_block(nonce: &[u8; 16], message: &[u8]) -> [u8; 32]
+    requires { length message.now ≤ 15 }
     ensures { result ≡ nonce.now ++ padded 16 message.now }
 {
-    let mut out = [0; 32];
-    paste(&mut out, 0, nonce);
-    paste(&mut out, 16, &pad::<16>(message));
-    out
+    joined(nonce, &pad::<16>(message))
 }
 
 // The length of the message in a block with this nonce and a padding.
-fn message_length(nonce: &[u8], plain: &[u8; 32]) -> Option<usize>
-    requires { length nonce.now ≡ 16 }
+fn message_length(nonce: &[u8; 16], plain: &[u8; 32]) -> Option<usize>
     ensures { MatchOption result
         ((m : List ℕ) → length m ≤ 15 → plain.now ≢ nonce.now ++ padded 16 m)
         (λ n. (n ≤ 15) × (plain.now ≡ nonce.now ++ padded 16 (take n (drop 16 plain.now)))) }
 {
-    if nonce != &plain[..16] {
+    if nonce[..] != plain[..16] {
         return None;
     }
     padding(&plain[16..])

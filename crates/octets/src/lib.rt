@@ -1,6 +1,6 @@
 #![tactic(auto)]
 
-ghost use Rattle.std.specs.Prelude.{◌≡◌, ◌+◌, ◌<◌, ◌≤◌, length, MatchBool, ◌≢◌};
+ghost use Rattle.std.specs.Prelude.{◌≡◌, ◌+◌, ◌<◌, ◌≤◌, ◌++◌, length, MatchBool, ◌≢◌};
 ghost use Rattle.octets.specs.Octets.{written, zeros};
 
 // Whether every byte is zero.
@@ -18,4 +18,17 @@ pub fn paste(bytes: &mut [u8], from: usize, part: &[u8])
     if from <= bytes.len() && part.len() <= bytes.len() - from {
         bytes[from..from + part.len()].copy_from_slice(part);
     }
+}
+
+// One text after another, where they come to N bytes; else zeros.
+pub fn joined<const N: usize>(a: &[u8], b: &[u8]) -> [u8; N]
+    ensures fitting { length a.now + length b.now ≡ N → result ≡ a.now ++ b.now }
+    ensures other { length a.now + length b.now ≢ N → result ≡ zeros N }
+{
+    let mut out = [0; N];
+    if a.len() <= N && b.len() == N - a.len() {
+        paste(&mut out, 0, a);
+        paste(&mut out, a.len(), b);
+    }
+    out
 }

@@ -9,13 +9,13 @@ use Rattle.faults.specs.declared.ModeFault.{ModeFault}
 use Rattle.faults.specs.declared.BoxCause.{BoxCause}
 use Rattle.faults.specs.declared.BoxCause.TheVariants.{Mode}
 use Rattle.faults.specs.declared.BoxFault.{BoxFault}
+use Rattle.faults.proofs.Results.{never_both, same_error, same_value}
 use Rattle.faults.proofs.Tables.{by_follows}
 use Rattle.sealing.specs.declared.found.Found.{Found}
 use Rattle.octets.specs.Octets.{part, written, big_endian}
 use Rattle.modes.proofs.Counting.{length-big_endian}
 use Rattle.saturnin.specs.Meaning.{BlockFunction}
 use Rattle.modes.specs.Cascade.{ctr, left, Opens}
-use Rattle.modes.proofs.Exactly.{never_both}
 use Rattle.sheets.specs.Records.{empty}
 use Rattle.sheets.specs.Sheets.{associated, nonce_in, head_in, length_in, text_in, tag_in, WellFormed}
 use Rattle.sealing.specs.Sealing.{right_tag, form_table, open_sheet_table, message_in}
@@ -31,9 +31,6 @@ pub form_refused : (f : BlockFunction) (key : List ℕ) (place : ℕ) (bytes : L
 form_refused f key place bytes fault result D r b =
     by_front {P = λ cause. fault ≡ record { cause = cause; place = None }} {Q = λ cause. result ≡ Err (record { cause = cause; place = None })} D
     (form_table bytes) ((Not (tag_in bytes ≡ right_tag f key place bytes), Mode Tag) ∷ []) (λ cause e. r ∙ ap Err e) b
-
-same_fault : (f g : ModeFault) → ◌≡◌ {A = Result (Unit {0}) ModeFault} (Err f) (Err g) → f ≡ g
-same_fault f g h = cc
 
 module _ (f : BlockFunction) (key : List ℕ) (place : ℕ) (bytes : List ℕ) (n : ℕ) (kl : length key ≡ 32) (long : length bytes ≡ 1024) (is : n ≡ length_in bytes)
     (there : Not (bytes ≡ empty)) (formed : WellFormed bytes) (data' out out' : List ℕ) (answer : Result (Unit {0}) ModeFault)
@@ -65,7 +62,7 @@ module _ (f : BlockFunction) (key : List ℕ) (place : ℕ) (bytes : List ℕ) (
       λ h. (
         λ k. absurd (k formed),
         λ k. (
-          λ differs. r ∙ ap (λ x. Err (from_mode x)) (same_fault fault (record { cause = Tag }) (sym a ∙ (rest.0 differs).0)),
+          λ differs. r ∙ ap (λ x. Err (from_mode x)) (same_error fault (record { cause = Tag }) (sym a ∙ (rest.0 differs).0)),
           λ right. absurd (never_both tt fault (sym (rest.1 right).0 ∙ a)),
         ),
       ),
@@ -86,23 +83,14 @@ module _ (f : BlockFunction) (key : List ℕ) (place : ℕ) (bytes : List ℕ) (
     )
 
 -- the same answers, with the number beside the length, and with the buffer made zero
-never_err : {A : Type 0} (x : A) (e : BoxFault) → ◌≡◌ {A = Result A BoxFault} (Ok x) (Err e) → ⊥
-never_err x e h = let z : ◌≡◌ {A = ℕ} 0 1 = cc in omega arith
-
-same_error : (e e' : BoxFault) → ◌≡◌ {A = Result ℕ BoxFault} (Err e) (Err e') → e ≡ e'
-same_error e e' h = cc
-
-same_length : (m n : ℕ) → ◌≡◌ {A = Result ℕ BoxFault} (Ok m) (Ok n) → m ≡ n
-same_length m n h = cc
-
 pub found : (table : Table BoxCause) (number number' n n' : ℕ) (message text bytes' after : List ℕ) → number ≡ number' → (n ≡ n' → message ≡ text → bytes' ≡ after)
     → By table (λ cause. ◌≡◌ {A = Result ℕ BoxFault} (Ok n) (Err (record { cause = cause; place = None }))) ((◌≡◌ {A = Result ℕ BoxFault} (Ok n) (Ok n')) × (message ≡ text))
     → By table (λ cause. (◌≡◌ {A = Result Found BoxFault} (Ok (record { number = number; length = n })) (Err (record { cause = cause; place = None }))) × (bytes' ≡ empty))
     ((◌≡◌ {A = Result Found BoxFault} (Ok (record { number = number; length = n })) (Ok (record { number = number'; length = n' }))) × (bytes' ≡ after))
 found table number number' n n' message text bytes' after e w b =
-    by_follows table (λ c (r : ◌≡◌ {A = Result ℕ BoxFault} (Ok n) (Err (record { cause = c; place = None }))). absurd (never_err n _ r))
+    by_follows table (λ c (r : ◌≡◌ {A = Result ℕ BoxFault} (Ok n) (Err (record { cause = c; place = None }))). absurd (never_both n _ r))
     (λ (d : (◌≡◌ {A = Result ℕ BoxFault} (Ok n) (Ok n')) × (message ≡ text)).
-    let l : n ≡ n' = same_length n n' d.0 in (ap₂ (λ (x y : ℕ). Ok (record { number = x; length = y })) e l, w l d.1)) b
+    let l : n ≡ n' = same_value n n' d.0 in (ap₂ (λ (x y : ℕ). Ok (record { number = x; length = y })) e l, w l d.1)) b
 
 -- a message of a known length in its place
 pub in_place : (room bytes : List ℕ) (n n' : ℕ) (text bytes' : List ℕ) → length (take n room) ≡ n → bytes' ≡ written 64 (take n room) bytes → n ≡ n' → take n' room ≡ text
@@ -115,4 +103,4 @@ pub wiped : (table : Table BoxCause) (fault : BoxFault) (n' : ℕ) (D D' : Type 
     → By table (λ cause. (◌≡◌ {A = Result Found BoxFault} (Err fault) (Err (record { cause = cause; place = None }))) × (bytes' ≡ empty)) D'
 wiped table fault n' D D' bytes' e b =
     by_follows table (λ c (r : ◌≡◌ {A = Result ℕ BoxFault} (Err fault) (Err (record { cause = c; place = None }))). (ap Err (same_error fault _ r), e))
-    (λ (d : (◌≡◌ {A = Result ℕ BoxFault} (Err fault) (Ok n')) × D). absurd (never_err n' fault (sym d.0))) b
+    (λ (d : (◌≡◌ {A = Result ℕ BoxFault} (Err fault) (Ok n')) × D). absurd (never_both n' fault (sym d.0))) b

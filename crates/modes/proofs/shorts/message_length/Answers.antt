@@ -8,7 +8,7 @@ use Rattle.modes.proofs.shorts.message_length.Goals as goal
 pub returns-then-ne : goal.returns-then-ne
 returns-then-ne c =
     let d = bytes_eq-Decides c.args.nonce.now (take 16 c.args.plain.now) in
-    other_nonce c.args.nonce.now c.args.plain.now c.requires c.told-plain (λ q. true≢false (sym c.if-ne.true ∙ c.ne.ensures ∙ ap not (d.1 q)))
+    other_nonce c.args.nonce.now c.args.plain.now c.told-nonce c.told-plain (λ q. true≢false (sym c.if-ne.true ∙ c.ne.ensures ∙ ap not (d.1 q)))
 
 pub returns : goal.returns
 returns c =
@@ -17,4 +17,4 @@ returns c =
       | inl y ↦ d.0 y
       | inr n ↦ absurd (true≢false (sym (c.ne.ensures ∙ ap not n) ∙ c.if-ne.false))
     ] in
-    this_nonce c.args.nonce.now c.args.plain.now c.requires c.told-plain e c.padding.result c.padding.ensures
+    this_nonce c.args.nonce.now c.args.plain.now c.told-nonce c.told-plain e c.padding.result c.padding.ensures

@@ -1,4 +1,5 @@
 use Rattle.std.proofs.Common.{◌≡◌, ◌*◌, ◌/◌, ◌<◌, [], length, drop, get_or, ap, ◌∙◌, refl, arith}
+use Rattle.std.proofs.lemmas.Grind.{common_steps}
 use Rattle.modes.specs.Bytes.{padded, full_blocks, tail_of}
 use Rattle.modes.specs.Chains.{links}
 use Rattle.modes.proofs.Linking.{links_none, links_step, block_of}
@@ -10,11 +11,11 @@ loop-block-init g c = record { cipher = refl; value = links_none _ _ _ _ _ }
 pub loop-block-preserved : goal.loop-block-preserved
 loop-block-preserved g c =
     let i = c.loop-block.block-index in
-    let within : i < length c.args.bytes.now / 32 = omega (arith, c.as_chunks.ensures.front_len) in
+    let within : i < length c.args.bytes.now / 32 = grind (arith, common_steps, c.as_chunks.ensures.front_len) in
     record {
-      cipher = c.loop-block.invariant.cipher;
+      cipher = c.take.ensures.cipher ∙ c.loop-block.invariant.cipher;
       value =
-          c.link-self.ensures ∙ links_step _ _ _ _ c.args.bytes.now _ _ _ _ _ i
+          c.take.ensures.value ∙ links_step _ _ _ _ c.args.bytes.now _ _ _ _ _ i
           (ap g.C.Cipher.forward c.loop-block.invariant.cipher) refl refl c.loop-block.invariant.value
           (ap (λ t. get_or t i []) c.as_chunks.ensures.front ∙ block_of (length c.args.bytes.now / 32) c.args.bytes.now i [] within);
     }
