@@ -1,9 +1,9 @@
 #![tactic(auto)]
 
 mod found;
+mod lock;
 mod openings;
 mod seals;
 
 pub use found::Found;
-pub use openings::open_sheet;
-pub use seals::seal_sheet;
+pub use lock::PlaceLock;

@@ -5,59 +5,52 @@ ghost use Rattle.sheets.specs.Sheets.{length_in as length_of, WellFormed};
 ghost use Rattle.sealing.specs.Sealing.{form_table, open_sheet_table, message_in as message_of, OpensSheet};
 
 use crate::found::Found;
+use crate::lock::PlaceLock;
 use crate::seals::associated;
 use faults::{BoxCause, BoxFault};
 use modes::Cascade;
 use saturnin::Cipher;
 use sheets::number_in;
 
-// Opens the record of a place in its buffer. A refusal makes the buffer zero.
-pub fn open_sheet<C: Cipher>(
-    cipher: &C,
-    key: &[u8; 32],
-    place: u32,
-    bytes: &mut [u8; 1024],
-) -> Result<Found, BoxFault>
-    ensures { OpensSheet (C.Cipher.forward cipher.now) key.now place bytes.old result bytes.new }
-{
-    let number = number_in(bytes);
-    // Room of a fixed size, with a length beside it: a box has no heap.
-    let mut room = [0; 928];
-    match opened(cipher, key, place, bytes, &mut room) {
-        Ok(length) => {
-            octets::paste(bytes, 64, &room[..length]);
-            Ok(Found { number, length })
-        }
-        Err(fault) => {
-            bytes.fill(0);
-            Err(fault)
+impl<'a, C: Cipher> PlaceLock<'a, C> {
+    // Opens the record of the place in its buffer. A refusal makes the buffer zero.
+    pub fn open(&self, bytes: &mut [u8; 1024]) -> Result<Found, BoxFault>
+        ensures { OpensSheet (C.Cipher.forward self.now.cipher.now) self.now.key.now self.now.place bytes.old result bytes.new }
+    {
+        let number = number_in(bytes);
+        // Room of a fixed size, with a length beside it: a box has no heap.
+        let mut room = [0; 928];
+        match self.opened(bytes, &mut room) {
+            Ok(length) => {
+                octets::paste(bytes, 64, &room[..length]);
+                Ok(Found { number, length })
+            }
+            Err(fault) => {
+                bytes.fill(0);
+                Err(fault)
+            }
         }
     }
-}
 
-// Opens the message of a record into room for one; it gives the length of the message.
-fn opened<'a, C: Cipher>(
-    cipher: &'a C,
-    key: &'a [u8; 32],
-    place: u32,
-    bytes: &'a [u8; 1024],
-    room: &mut [u8; 928],
-) -> Result<usize, BoxFault>
-    ensures few { IfOk result (λ n. n ≤ 928) }
-    ensures opens { By (open_sheet_table (C.Cipher.forward cipher.now) key.now place bytes.now)
-        (λ cause. result ≡ Err (record { cause = cause; place = None }))
-        ((result ≡ Ok (length_of bytes.now)) × (take (length_of bytes.now) room.new ≡ message_of (C.Cipher.forward cipher.now) key.now bytes.now)) }
-{
-    let n = text_length(bytes)?;
-    let data = associated(place, bytes[16..64].as_array().unwrap());
-    let under = Cascade {
-        cipher,
-        key,
-        nonce: &bytes[..16],
-        associated: &data,
-    };
-    under.open(&bytes[64..64 + n], &bytes[992..], &mut room[..n])?;
-    Ok(n)
+    // Opens the message of a record into room for one; it gives the length of the message.
+    fn opened(&'a self, bytes: &'a [u8; 1024], room: &mut [u8; 928]) -> Result<usize, BoxFault>
+        ensures few { IfOk result (λ n. n ≤ 928) }
+        ensures opens { By (open_sheet_table (C.Cipher.forward self.now.cipher.now) self.now.key.now self.now.place bytes.now)
+            (λ cause. result ≡ Err (record { cause = cause; place = None }))
+            ((result ≡ Ok (length_of bytes.now)) × (take (length_of bytes.now) room.new ≡ message_of (C.Cipher.forward self.now.cipher.now) self.now.key.now bytes.now)) }
+    {
+        let key = self.key;
+        let n = text_length(bytes)?;
+        let data = associated(self.place, bytes[16..64].as_array().unwrap());
+        let under = Cascade {
+            cipher: self.cipher,
+            key,
+            nonce: &bytes[..16],
+            associated: &data,
+        };
+        under.open(&bytes[64..64 + n], &bytes[992..], &mut room[..n])?;
+        Ok(n)
+    }
 }
 
 // The length of the message in a record that holds one and is well-formed.

@@ -3,12 +3,12 @@ use Rattle.octets.specs.Octets.{zeros}
 use Rattle.octets.proofs.Writes.{put_is, length-written}
 use Rattle.modes.proofs.Streams.{length-ctr}
 use Rattle.sealing.proofs.Laying.{middle_long, laid, as_sealed}
-use Rattle.sealing.proofs.seals.seal_sheet.Goals as goal
+use Rattle.sealing.proofs.lock.PlaceLock.seal.Goals as goal
 
 pub returns : goal.returns
 returns g c =
-    let f = g.C.Cipher.forward c.args.cipher.now in
-    let key = c.args.key.now in
+    let f = g.C.Cipher.forward c.args.self.now.cipher.now in
+    let key = c.args.self.now.key.now in
     let nonce = c.args.nonce.now in
     let message = c.args.message.now in
     let label = c.args.label.now in
@@ -30,4 +30,4 @@ returns g c =
     let long_2 : length c.paste-2.new.bytes ≡ 1024 = search rules in
     let all = laid nonce c.head_of-head.result c.seal.new.out c.seal.new.tag c.fill.new.self _ c.paste.new.bytes c.paste-2.new.bytes c.paste-3.new.bytes n
     nonce_long head_long text_long few tag-long blank first (c.paste.ensures.fitting (omega (arith, nonce_long, ap length first, length-written 64 c.seal.new.out c.fill.new.self (omega (arith, text_long, wiped_long)), wiped_long))) (c.paste-2.ensures.fitting (omega (arith, head_long, long_1))) (c.paste-3.ensures.fitting (omega (arith, tag-long, long_2))) in
-    (λ h. absurd (omega arith), λ h. (refl, all ∙ as_sealed f key nonce label message c.head_of-head.result c.associated-associated.result c.seal.new.out c.seal.new.tag c.args.place c.head_of-head.ensures c.associated-associated.ensures d.1 d.2))
+    (λ h. absurd (omega arith), λ h. (refl, all ∙ as_sealed f key nonce label message c.head_of-head.result c.associated-associated.result c.seal.new.out c.seal.new.tag c.args.self.now.place c.head_of-head.ensures c.associated-associated.ensures d.1 d.2))

@@ -1,0 +1,7 @@
+// What the sheet of a place is sealed under: a cipher, a key, and the place.
+#[derive(Drop)]
+pub struct PlaceLock<'a, C> {
+    pub cipher: &'a C,
+    pub key: &'a [u8; 32],
+    pub place: u32,
+}
