@@ -8,17 +8,17 @@ use Rattle.cli.specs.declared.commands.Command.TheVariants.{Help, Hash, Lock, Un
 abbrev pub Spells : (words : List (List ℕ)) → Command → Type 0
 Spells words Help = (words ≡ codes "help" ∷ []) ⊎ (words ≡ codes "--help" ∷ [])
 Spells words (Hash files) = (words ≡ codes "hash" ∷ map string_bytes files.now) × (1 ≤ length files.now)
-Spells words (Lock None key from to) = words ≡ codes "lock" ∷ key.now ∷ from.now ∷ to.now ∷ []
-Spells words (Lock (Some nonce) key from to) = words ≡ codes "lock" ∷ codes "--nonce" ∷ nonce.now ∷ key.now ∷ from.now ∷ to.now ∷ []
-Spells words (Unlock key from to) = words ≡ codes "unlock" ∷ key.now ∷ from.now ∷ to.now ∷ []
+Spells words (Lock None files) = words ≡ codes "lock" ∷ files.key.now ∷ files.from.now ∷ files.to.now ∷ []
+Spells words (Lock (Some nonce) files) = words ≡ codes "lock" ∷ codes "--nonce" ∷ nonce.now ∷ files.key.now ∷ files.from.now ∷ files.to.now ∷ []
+Spells words (Unlock files) = words ≡ codes "unlock" ∷ files.key.now ∷ files.from.now ∷ files.to.now ∷ []
 Spells words (Tray file) = words ≡ codes "shelf" ∷ codes "tray" ∷ file.now ∷ []
 Spells words (Plate file places) = words ≡ codes "shelf" ∷ codes "plate" ∷ file.now ∷ places.now ∷ []
 
 abbrev pub IsOfAShelf : Command → Type 0
 IsOfAShelf Help = ⊥
 IsOfAShelf (Hash files) = ⊥
-IsOfAShelf (Lock _ key from to) = ⊥
-IsOfAShelf (Unlock key from to) = ⊥
+IsOfAShelf (Lock _ files) = ⊥
+IsOfAShelf (Unlock files) = ⊥
 IsOfAShelf (Tray file) = Unit {0}
 IsOfAShelf (Plate file places) = Unit {0}
 

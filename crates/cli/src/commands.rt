@@ -17,6 +17,14 @@ pub(crate) const SHELVES_USAGE: &str =
     "       majgunter shelf tray FILE                        print what a tray holds
        majgunter shelf plate FILE PLACES                print what a plate of so many places holds";
 
+// The names of the files that a locking or an unlocking is about.
+#[derive(Clone, Copy)]
+pub struct Files<'a> {
+    pub key: &'a str,
+    pub from: &'a str,
+    pub to: &'a str,
+}
+
 // A command of the program, with what its words name.
 #[derive(Clone, Copy)]
 pub enum Command<'a> {
@@ -24,15 +32,9 @@ pub enum Command<'a> {
     Hash(&'a [String]),
     Lock {
         nonce: Option<&'a str>,
-        key: &'a str,
-        from: &'a str,
-        to: &'a str,
+        files: Files<'a>,
     },
-    Unlock {
-        key: &'a str,
-        from: &'a str,
-        to: &'a str,
-    },
+    Unlock(Files<'a>),
     Tray {
         file: &'a str,
     },
@@ -66,15 +68,11 @@ impl<'a> Command<'a> {
         match words {
             [key, from, to] => Some(Command::Lock {
                 nonce: None,
-                key,
-                from,
-                to,
+                files: Files { key, from, to },
             }),
             [option, nonce, key, from, to] if option.as_str() == "--nonce" => Some(Command::Lock {
                 nonce: Some(nonce),
-                key,
-                from,
-                to,
+                files: Files { key, from, to },
             }),
             _ => None,
         }
@@ -86,7 +84,7 @@ impl<'a> Command<'a> {
         let [key, from, to] = words else {
             return None;
         };
-        Some(Command::Unlock { key, from, to })
+        Some(Command::Unlock(Files { key, from, to }))
     }
 
     fn of_shelf(words: &'a [String]) -> Option<Command<'a>>
@@ -145,11 +143,10 @@ impl<'a> Command<'a> {
             (Command::Lock { .. }, ModeCause::Length) =>
                 "; a key file has 32 bytes, and a nonce 20",
             (Command::Lock { .. }, ModeCause::Limit) => "; a file to lock has at most 65,536 bytes",
-            (Command::Unlock { .. }, ModeCause::Length) =>
+            (Command::Unlock(_), ModeCause::Length) =>
                 "; a key file has 32 bytes, and a locked file at least 56",
-            (Command::Unlock { .. }, ModeCause::Limit) =>
-                "; a locked file has at most 65,592 bytes",
-            (Command::Unlock { .. }, ModeCause::Tag) =>
+            (Command::Unlock(_), ModeCause::Limit) => "; a locked file has at most 65,592 bytes",
+            (Command::Unlock(_), ModeCause::Tag) =>
                 "; the file is damaged, locked with another key, or no locked file",
             _ => "",
         }

@@ -49,18 +49,13 @@ pub fn perform(
             Ok(true)
         }
         Command::Hash(files) => hash_files(rt, command, files),
-        Command::Lock {
-            nonce,
-            key,
-            from,
-            to,
-        } => {
-            let done = lock_file(rt, nonce, key, from, to);
-            command.told(rt, from, done.map(|()| ""))
+        Command::Lock { nonce, files } => {
+            let done = lock_file(rt, nonce, files);
+            command.told(rt, files.from, done.map(|()| ""))
         }
-        Command::Unlock { key, from, to } => {
-            let done = unlock_file(rt, key, from, to);
-            command.told(rt, from, done.map(|()| ""))
+        Command::Unlock(files) => {
+            let done = unlock_file(rt, files);
+            command.told(rt, files.from, done.map(|()| ""))
         }
         Command::Tray { file } => command.told(rt, file, tray_told(rt, file)),
         Command::Plate { file, places } => command.told(rt, file, plate_told(rt, file, places)),

@@ -1,3 +1,4 @@
+use crate::commands::Files;
 use crate::files::{read_limited, write_whole};
 use crate::problems::Problem;
 use desk::{locked_bytes, unlocked_bytes};
@@ -6,30 +7,23 @@ use desk::{locked_bytes, unlocked_bytes};
 pub(crate) fn lock_file(
     rt: &HostRuntime,
     nonce: Option<&str>,
-    key: &str,
-    from: &str,
-    to: &str,
+    files: Files,
 ) -> Result<(), Problem> {
-    let key = read_key(rt, key)?;
-    let message = read_limited(rt, from, 65_537)?;
+    let key = read_key(rt, files.key)?;
+    let message = read_limited(rt, files.from, 65_537)?;
     let nonce = match nonce {
         None => read_limited(rt, "/dev/urandom", 20)?,
         Some(digits) => hexadecimal::decode(rt.alloc(), digits)?.ok_or(Problem::NoDigits)?,
     };
     let file = locked_bytes(rt.alloc(), &key, &nonce, &message)?;
-    put(rt, to, &file)
+    put(rt, files.to, &file)
 }
 
-pub(crate) fn unlock_file(
-    rt: &HostRuntime,
-    key: &str,
-    from: &str,
-    to: &str,
-) -> Result<(), Problem> {
-    let key = read_key(rt, key)?;
-    let file = read_limited(rt, from, 65_593)?;
+pub(crate) fn unlock_file(rt: &HostRuntime, files: Files) -> Result<(), Problem> {
+    let key = read_key(rt, files.key)?;
+    let file = read_limited(rt, files.from, 65_593)?;
     let message = unlocked_bytes(rt.alloc(), &key, &file)?;
-    put(rt, to, &message)
+    put(rt, files.to, &message)
 }
 
 fn read_key(rt: &HostRuntime, name: &str) -> Result<Vec<u8>, Problem> {

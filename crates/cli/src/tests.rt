@@ -1,4 +1,5 @@
 use super::*;
+use commands::Files;
 use desk::Unmade;
 use std::fs;
 use std::test::Fail;
@@ -10,21 +11,28 @@ fn locks_and_unlocks(rt: HostRuntime) -> Result<(), Fail> {
     fs::write(&rt, "other", "0123456789abcdef0123456789abcdeF")?;
     fs::write(&rt, "short", "0123456789abcdef")?;
     fs::write(&rt, "rose", "a rose window")?;
-    assert!(rt; lock_file(&rt, None, "key", "rose", "rose.locked").is_ok());
-    assert!(rt; unlock_file(&rt, "key", "rose.locked", "rose.again").is_ok());
+    assert!(rt; lock_file(&rt, None, files("key", "rose", "rose.locked")).is_ok());
+    assert!(rt; unlock_file(&rt, files("key", "rose.locked", "rose.again")).is_ok());
     assert!(rt; fs::read(&rt, "rose.again")?.as_slice() == b"a rose window".as_slice());
     assert_eq!(rt;
-        refusal(unlock_file(&rt, "other", "rose.locked", "never")),
+        refusal(unlock_file(&rt, files("other", "rose.locked", "never"))),
         11
     );
     assert_eq!(rt;
-        refusal(unlock_file(&rt, "short", "rose.locked", "never")),
+        refusal(unlock_file(&rt, files("short", "rose.locked", "never"))),
         1
     );
-    assert_eq!(rt; refusal(unlock_file(&rt, "key", "rose", "never")), 1);
-    assert_eq!(rt; refusal(lock_file(&rt, None, "short", "rose", "never")), 1);
+    assert_eq!(rt; refusal(unlock_file(&rt, files("key", "rose", "never"))), 1);
+    assert_eq!(rt;
+        refusal(lock_file(&rt, None, files("short", "rose", "never"))),
+        1
+    );
     assert!(rt; fs::read(&rt, "never").is_err());
     Ok(())
+}
+
+fn files<'a>(key: &'a str, from: &'a str, to: &'a str) -> Files<'a> {
+    Files { key, from, to }
 }
 
 fn refusal(done: Result<(), Problem>) -> u8 {

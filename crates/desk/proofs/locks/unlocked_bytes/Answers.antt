@@ -1,5 +1,5 @@
-use Rattle.std.proofs.Common.{Err, vec_items, sym, ap, ◌∙◌, subst, arith}
-use Rattle.std.proofs.lemmas.Result.{err_from_is_err_and}
+use Rattle.std.proofs.Common.{vec_items, sym, ◌∙◌, subst, arith}
+use Rattle.faults.proofs.Results.{handed_on}
 use Rattle.saturnin.specs.Rounds.{forward}
 use Rattle.locked.specs.Locked.{Holds}
 use Rattle.desk.specs.Locks.{Unlocking}
@@ -9,11 +9,10 @@ use Rattle.desk.proofs.locks.unlocked_bytes.Goals as goal
 
 pub returns-in_err-unlock : goal.returns-in_err-unlock
 returns-in_err-unlock c =
-    let p = err_from_is_err_and c.from_residual-in_err-unlock.result c.from_residual-in_err-unlock.ensures.1 in
     let l = c.deref_mut.ensures.len in
     let made = c.in_ok-message.ensures.len in
     let s = c.saturating_sub.ensures in
-    subst (Unlocking vec_items c.args.key.now c.args.file.now) (sym (p.1 ∙ ap Err p.2))
+    subst (Unlocking vec_items c.args.key.now c.args.file.now) (sym (handed_on _ c.from_residual-in_err-unlock.result c.from_residual-in_err-unlock.ensures.1))
     (unlock_refused c.args.key.now c.args.file.now c.deref_mut.result.now c.unlock.new.out _ (omega (arith, l, made, s)) c.in_err-unlock.ensures)
 
 pub returns : goal.returns
