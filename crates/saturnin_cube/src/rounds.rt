@@ -14,7 +14,7 @@ impl Cube {
     fn plus_subkey(self, key: Cube, c: RoundConstants) -> Cube
         ensures { nibbles result ≡ add (nibbles key) (add (constants c.rc0 c.rc1) (nibbles self)) }
     {
-        self.plus(Cube::constants(c)).plus(key)
+        self ^ Cube::constants(c) ^ key
     }
 
     fn super_round(self, shift: Shift, key: Cube, c: RoundConstants) -> Cube
@@ -43,7 +43,7 @@ impl Cube {
     {
         let rotated = key.moved(Move::Rotation);
         let schedule = Schedule::new(by);
-        let mut s = self.plus(key);
+        let mut s = self ^ key;
         for (i, c) in schedule.rounds[..by.r as usize].iter().enumerate() {
             s = if i % 2 == 0 {
                 s.super_round(Shift::Slices, rotated, *c)
@@ -67,6 +67,6 @@ impl Cube {
                 s.super_round_back(Shift::Sheets, key, *c)
             };
         }
-        s.plus(key)
+        s ^ key
     }
 }

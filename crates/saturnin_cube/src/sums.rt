@@ -9,16 +9,33 @@ use crate::nibble::bit;
 use crate::shape::{Cube, Row};
 use saturnin::RoundConstants;
 use std::array;
+use std::ops::BitXor;
 
-impl Row {
-    fn plus(self, other: Row) -> Row
-        ensures { (y : ℕ) → y < 4 → of_row result y ≡ bit_xor (of_row self y) (of_row other y) }
-    {
+impl BitXor for Row {
+    type Output = Row;
+
+    ghost bitxor_gives = { λ q s r. (y : ℕ) → y < 4 → of_row r y ≡ bit_xor (of_row q y) (of_row s y) };
+
+    fn bitxor(self, other: Row) -> Row {
         Row {
             nibbles: array::from_fn(|y| self.nibble(y) ^ other.nibble(y)),
         }
     }
+}
 
+impl BitXor for Cube {
+    type Output = Cube;
+
+    ghost bitxor_gives = { λ s k r. nibbles r ≡ add (nibbles k) (nibbles s) };
+
+    fn bitxor(self, key: Cube) -> Cube {
+        Cube {
+            rows: array::from_fn(|b| self.row(b) ^ key.row(b)),
+        }
+    }
+}
+
+impl Row {
     // Row b of the cube of two round constants.
     fn constants(c: RoundConstants, b: usize) -> Row
         requires { b < 16 }
@@ -36,14 +53,6 @@ impl Row {
 }
 
 impl Cube {
-    pub(crate) fn plus(self, key: Cube) -> Cube
-        ensures { nibbles result ≡ add (nibbles key) (nibbles self) }
-    {
-        Cube {
-            rows: array::from_fn(|b| self.row(b).plus(key.row(b))),
-        }
-    }
-
     pub(crate) fn constants(c: RoundConstants) -> Cube
         ensures { nibbles result ≡ constants_of c.rc0 c.rc1 }
     {

@@ -51,5 +51,5 @@ pub returns : goal.returns
 unfolding rounds⁻¹
 returns c =
     let k = nibbles c.args.key in
-    c.plus.ensures
+    c.bitxor.ensures
     ∙ ap (add k) (ap (λ n. rounds⁻¹ k c.args.by.d c.args.by.r (2 * n) (nibbles c.loop-i.s)) (sym c.in-None.ensures.steps.1.0) ∙ c.loop-i.invariant.so_far)

@@ -1,7 +1,7 @@
 use Rattle.std.proofs.Common.{rules}
 use Rattle.saturnin.specs.Layers.{add}
 use Rattle.saturnin_cube.proofs.Made.{made_cube}
-use Rattle.saturnin_cube.proofs.shape.Cube.plus.Goals as goal
+use Rattle.saturnin_cube.proofs.sums.CubeBitXor.bitxor.Goals as goal
 
 pub returns : goal.returns
 unfolding add
