@@ -1,6 +1,6 @@
-ghost use Rattle.std.specs.Prelude.{◌≡◌, ℕ, ◌+◌, ◌*◌, ◌<◌};
+ghost use Rattle.std.specs.Prelude.{◌≡◌, ◌+◌, ◌*◌, ◌<◌};
 ghost use Rattle.saturnin.specs.Cube.{at};
-ghost use Rattle.saturnin_cube.specs.Nibbles.{of_row, nibbles};
+ghost use Rattle.saturnin_cube.specs.Nibbles.{IsRow, nibbles};
 ghost use Rattle.saturnin_cube.specs.Parts.{moved_by, source_of};
 
 use crate::shape::{Cube, Row};
@@ -44,7 +44,7 @@ impl Cube {
     // Row b after a move.
     fn moved_row(&self, by: Move, b: usize) -> Row
         requires { b < 16 }
-        ensures { (y : ℕ) → y < 4 → of_row result y ≡ at (nibbles self.now) (source_of by (4 * b + y)) }
+        ensures { IsRow result (λ y. at (nibbles self.now) (source_of by (4 * b + y))) }
     {
         Row {
             nibbles: array::from_fn(|y| self.row(by.source(b, y)).nibble(y)),

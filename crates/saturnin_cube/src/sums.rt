@@ -1,9 +1,9 @@
-ghost use Rattle.std.specs.Prelude.{◌≡◌, ℕ, ◌<◌, [], ◌∷◌, bit_xor};
+ghost use Rattle.std.specs.Prelude.{◌≡◌, ◌<◌, [], ◌∷◌, bit_xor};
 ghost use Rattle.saturnin.specs.Bits.{bit as bit_of};
 ghost use Rattle.saturnin.specs.Cube.{at};
 ghost use Rattle.saturnin.specs.Layers.{add};
 ghost use Rattle.saturnin.specs.Rounds.{constants as constants_of};
-ghost use Rattle.saturnin_cube.specs.Nibbles.{of_row, nibbles};
+ghost use Rattle.saturnin_cube.specs.Nibbles.{of_row, IsRow, nibbles};
 
 use crate::nibble::bit;
 use crate::shape::{Cube, Row};
@@ -14,7 +14,7 @@ use std::ops::BitXor;
 impl BitXor for Row {
     type Output = Row;
 
-    ghost bitxor_gives = { λ q s r. (y : ℕ) → y < 4 → of_row r y ≡ bit_xor (of_row q y) (of_row s y) };
+    ghost bitxor_gives = { λ p q r. IsRow r (λ y. bit_xor (of_row p y) (of_row q y)) };
 
     fn bitxor(self, other: Row) -> Row {
         Row {
@@ -39,7 +39,7 @@ impl Row {
     // Row b of the cube of two round constants.
     fn constants(c: RoundConstants, b: usize) -> Row
         requires { b < 16 }
-        ensures { (y : ℕ) → y < 4 → of_row result y ≡ at (bit_of c.rc0 b ∷ 0 ∷ bit_of c.rc1 b ∷ 0 ∷ []) y }
+        ensures { IsRow result (at (bit_of c.rc0 b ∷ 0 ∷ bit_of c.rc1 b ∷ 0 ∷ [])) }
     {
         Row {
             nibbles: [
