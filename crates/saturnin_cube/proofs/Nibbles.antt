@@ -1,16 +1,11 @@
 -- Cubes that are held in rows.
 use Rattle.std.specs.Prelude.{◌≡◌, ℕ, zero, suc, ◌+◌, ◌*◌, ◌/◌, ◌%◌, ◌<◌, cond, ◌==◌, List, [], ◌∷◌, length, refl}
-use Rattle.std.proofs.Common.{sym, ap, ap₂, get_or, ◌∙◌, add-zero, arith, lit<}
+use Rattle.std.proofs.Common.{T, eqb, sym, ap, ap₂, get_or, ◌∙◌, add-zero, arith, lit<}
 use Rattle.std.proofs.lemmas.List.{get_or-map}
 use Rattle.saturnin.specs.Cube.{at, cube}
-use Rattle.saturnin.specs.Layers.{SR_slice, SR_slice⁻¹, SR_sheet, SR_sheet⁻¹}
-use Rattle.saturnin.specs.Rounds.{rotated}
+use Rattle.saturnin.proofs.Bits.{below, same_below}
 use Rattle.saturnin.proofs.Tables.{at_table, same_table}
 use Rattle.saturnin_cube.specs.Nibbles.{of_row, IsRow, nibble_at, nibbles}
-use Rattle.saturnin_cube.specs.Parts.{moved_by, source_of}
-use Rattle.saturnin_cube.specs.declared.moves.Move.{Move}
-use Rattle.saturnin_cube.specs.declared.moves.Move.TheVariants.{There, Back, Rotation}
-use Rattle.saturnin_cube.specs.declared.moves.Shift.TheVariants.{Slices, Sheets}
 use Rattle.saturnin_cube.specs.declared.nibble.Nibble.{Nibble}
 use Rattle.saturnin_cube.specs.declared.shape.Row.{Row}
 use Rattle.saturnin_cube.specs.declared.shape.Cube.{Cube}
@@ -64,13 +59,9 @@ columns F c d each = is_rows d (λ b y. F y (at (nibbles c) (4 * b)) (at (nibble
 pub taken : (r : Row) (y : ℕ) {n : Nibble} → n ≡ get_or r.nibbles y n → y < 4 → n.value ≡ of_row r y
 taken r y {n} e l = ap (λ (n : Nibble). n.value) e ∙ nibble_is r y n l
 
-pub moved_is : (m : Move) (s : List ℕ) → moved_by m s ≡ cube (λ i. at s (source_of m i))
-unfolding SR_slice SR_slice⁻¹ SR_sheet SR_sheet⁻¹ rotated
-moved_is (There Slices) s = refl
-moved_is (Back Slices) s = refl
-moved_is (There Sheets) s = refl
-moved_is (Back Sheets) s = refl
-moved_is Rotation s = refl
+-- the nibbles that a shift takes, by a turn
+pub same_places : (s : List ℕ) (f g : ℕ → ℕ) → T (below (λ i. eqb (f i) (g i)) 64) → cube (λ i. at s (f i)) ≡ cube (λ i. at s (g i))
+same_places s f g t = same_table 64 _ _ (λ i h. ap (at s) (same_below f g 64 t i h))
 
 -- a cube with one function at even y and another at odd y
 pub boxes : (even odd : ℕ → ℕ) (c d : Cube)

@@ -31,7 +31,7 @@ loop-i-preserved-then-i-eq0 c =
     let even : length left % 2 ≡ 0 = omega (arith, steps.1.1, c.loop-i.invariant.counted, c.if-i-eq0.true) in record {
       counted = search rules;
       in_turn = others D R left _ (subst (InTurn D R) steps.1.0 c.loop-i.invariant.in_turn);
-      so_far = back D R k _ left _ steps.1.0 c.loop-i.invariant.in_turn (slices k D R (length left) even) _ _ (rw (← c.moved-rotated.ensures) c.super_round_back-s.ensures) ∙ c.loop-i.invariant.so_far;
+      so_far = back D R k _ left _ steps.1.0 c.loop-i.invariant.in_turn (slices k D R (length left) even) _ _ (rw (← c.rotated-rotated.ensures) c.super_round_back-s.ensures) ∙ c.loop-i.invariant.so_far;
     }
 
 pub loop-i-preserved : goal.loop-i-preserved

@@ -3,4 +3,4 @@ use Rattle.saturnin_cube.proofs.shape.Cube.super_round.Goals as goal
 
 pub returns : goal.returns
 unfolding super_round
-returns c = cc
+returns g c = cc

@@ -1,0 +1,6 @@
+use Rattle.std.proofs.Common.{rules}
+use Rattle.saturnin_cube.proofs.Made.{made_cube}
+use Rattle.saturnin_cube.proofs.shape.Cube.turned.Goals as goal
+
+pub returns : goal.returns
+returns c = made_cube _ _ _ _ (λ b r q lt called. (search rules, search rules)) c.from_fn.ensures.items
