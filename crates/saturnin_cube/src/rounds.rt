@@ -16,6 +16,7 @@ impl Cube {
         self ^ Cube::constants(c) ^ key
     }
 
+    #[tactic(auto, unfolding(saturnin::specs::TwoRounds::super_round))]
     fn super_round<T: Shift>(self, key: Cube, c: RoundConstants) -> Cube
         ensures { nibbles result ≡ super_round_of T.there T.back (nibbles key) c.rc0 c.rc1 (nibbles self) }
     {
