@@ -3,7 +3,7 @@ use Rattle.std.proofs.Common.{◌≡◌, ℕ, ◌+◌, ◌*◌, ◌/◌, ◌%◌
 use Rattle.std.specs.Array.{IsFromFnResult}
 use Rattle.saturnin.specs.Cube.{at, cube}
 use Rattle.saturnin.proofs.Made.{Each, each_at}
-use Rattle.saturnin_cube.specs.Nibbles.{of_row, nibbles}
+use Rattle.saturnin_cube.specs.Nibbles.{IsRow, nibbles}
 use Rattle.saturnin_cube.specs.declared.nibble.Nibble.{Nibble}
 use Rattle.saturnin_cube.specs.declared.shape.Row.{Row}
 use Rattle.saturnin_cube.specs.declared.shape.Cube.{Cube}
@@ -17,9 +17,9 @@ made_row g f h ns pure it y l = sym (nibble_is (record { nibbles = ns; whole = i
 
 -- a cube of such rows, by row and y or by index
 pub made_rows : {F : Type 0} (g : Mut F (ℕ × Unit {0}) Row) (f : F) (h : ℕ → ℕ → ℕ) (c : Cube)
-    → Each g f (λ b r. (y : ℕ) → y < 4 → of_row r y ≡ h b y) 16 → IsFromFnResult g f c.rows 16 → nibbles c ≡ cube (λ i. h (i / 4) (i % 4))
-made_rows g f h c pure it = is_rows c h (λ b r lt. each_at g f (λ b r. (y : ℕ) → y < 4 → of_row r y ≡ h b y) 16 c.rows pure it b r lt)
+    → Each g f (λ b r. IsRow r (h b)) 16 → IsFromFnResult g f c.rows 16 → nibbles c ≡ cube (λ i. h (i / 4) (i % 4))
+made_rows g f h c pure it = is_rows c h (λ b r lt. each_at g f (λ b r. IsRow r (h b)) 16 c.rows pure it b r lt)
 
 pub made_cube : {F : Type 0} (g : Mut F (ℕ × Unit {0}) Row) (f : F) (h : ℕ → ℕ) (c : Cube)
-    → Each g f (λ b r. (y : ℕ) → y < 4 → of_row r y ≡ h (4 * b + y)) 16 → IsFromFnResult g f c.rows 16 → nibbles c ≡ cube h
-made_cube g f h c pure it = is_cube c h (λ b r lt. each_at g f (λ b r. (y : ℕ) → y < 4 → of_row r y ≡ h (4 * b + y)) 16 c.rows pure it b r lt)
+    → Each g f (λ b r. IsRow r (λ y. h (4 * b + y))) 16 → IsFromFnResult g f c.rows 16 → nibbles c ≡ cube h
+made_cube g f h c pure it = is_cube c h (λ b r lt. each_at g f (λ b r. IsRow r (λ y. h (4 * b + y))) 16 c.rows pure it b r lt)

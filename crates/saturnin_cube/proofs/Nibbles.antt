@@ -1,16 +1,11 @@
 -- Cubes that are held in rows.
 use Rattle.std.specs.Prelude.{◌≡◌, ℕ, zero, suc, ◌+◌, ◌*◌, ◌/◌, ◌%◌, ◌<◌, cond, ◌==◌, List, [], ◌∷◌, length, refl}
-use Rattle.std.proofs.Common.{sym, ap, ap₂, get_or, ◌∙◌, add-zero, arith, lit<}
+use Rattle.std.proofs.Common.{T, eqb, sym, ap, ap₂, get_or, ◌∙◌, add-zero, arith, lit<}
 use Rattle.std.proofs.lemmas.List.{get_or-map}
 use Rattle.saturnin.specs.Cube.{at, cube}
-use Rattle.saturnin.specs.Layers.{SR_slice, SR_slice⁻¹, SR_sheet, SR_sheet⁻¹}
-use Rattle.saturnin.specs.Rounds.{rotated}
+use Rattle.saturnin.proofs.Bits.{below, same_below}
 use Rattle.saturnin.proofs.Tables.{at_table, same_table}
-use Rattle.saturnin_cube.specs.Nibbles.{of_row, nibble_at, nibbles}
-use Rattle.saturnin_cube.specs.Parts.{moved_by, source_of}
-use Rattle.saturnin_cube.specs.declared.moves.Move.{Move}
-use Rattle.saturnin_cube.specs.declared.moves.Move.TheVariants.{There, Back, Rotation}
-use Rattle.saturnin_cube.specs.declared.moves.Shift.TheVariants.{Slices, Sheets}
+use Rattle.saturnin_cube.specs.Nibbles.{of_row, IsRow, nibble_at, nibbles}
 use Rattle.saturnin_cube.specs.declared.nibble.Nibble.{Nibble}
 use Rattle.saturnin_cube.specs.declared.shape.Row.{Row}
 use Rattle.saturnin_cube.specs.declared.shape.Cube.{Cube}
@@ -30,7 +25,7 @@ at_row f b y h l =
 pub nibble_is : (r : Row) (y : ℕ) (n : Nibble) → y < 4 → (get_or r.nibbles y n).value ≡ of_row r y
 nibble_is r y n l = sym (get_or-map (λ (n : Nibble). n.value) r.nibbles y n 0 (omega (arith, r.whole)))
 
-pub row_is : (c : Cube) (b : ℕ) (r : Row) → b < 16 → (y : ℕ) → y < 4 → of_row (get_or c.rows b r) y ≡ at (nibbles c) (4 * b + y)
+pub row_is : (c : Cube) (b : ℕ) (r : Row) → b < 16 → IsRow (get_or c.rows b r) (λ y. at (nibbles c) (4 * b + y))
 unfolding nibbles
 row_is c b r h y l = sym (nibble_read c.rows b y r (omega (arith, c.whole))) ∙ sym (at_row (nibble_at c.rows) b y h l)
 
@@ -42,19 +37,19 @@ none : Row
 none = record { nibbles = no_nibble ∷ no_nibble ∷ no_nibble ∷ no_nibble ∷ []; whole = refl }
 
 -- a cube by its rows
-pub is_rows : (c : Cube) (f : ℕ → ℕ → ℕ) → ((b : ℕ) (r : Row) → b < 16 → (y : ℕ) → y < 4 → of_row (get_or c.rows b r) y ≡ f b y) → nibbles c ≡ cube (λ i. f (i / 4) (i % 4))
+pub is_rows : (c : Cube) (f : ℕ → ℕ → ℕ) → ((b : ℕ) (r : Row) → b < 16 → IsRow (get_or c.rows b r) (f b)) → nibbles c ≡ cube (λ i. f (i / 4) (i % 4))
 unfolding nibbles
 is_rows c f each = same_table 64 _ (λ i. f (i / 4) (i % 4)) (λ i h.
     nibble_read c.rows (i / 4) (i % 4) none (omega (arith, c.whole)) ∙ each (i / 4) none (omega arith) (i % 4) (omega arith))
 
 -- or by the indices in them
-pub is_cube : (c : Cube) (f : ℕ → ℕ) → ((b : ℕ) (r : Row) → b < 16 → (y : ℕ) → y < 4 → of_row (get_or c.rows b r) y ≡ f (4 * b + y)) → nibbles c ≡ cube f
+pub is_cube : (c : Cube) (f : ℕ → ℕ) → ((b : ℕ) (r : Row) → b < 16 → IsRow (get_or c.rows b r) (λ y. f (4 * b + y))) → nibbles c ≡ cube f
 is_cube c f each =
     is_rows c (λ b y. f (4 * b + y)) each ∙ same_table 64 _ f (λ i h. ap f (let q : 4 * (i / 4) + i % 4 ≡ i = omega arith in q))
 
 -- a cube by a function on the columns
 pub columns : (F : ℕ → ℕ → ℕ → ℕ → ℕ → ℕ) (c d : Cube)
-    → ((b : ℕ) (r : Row) → b < 16 → (y : ℕ) → y < 4 → let q : Row = get_or c.rows b r in of_row (get_or d.rows b r) y ≡ F y (of_row q 0) (of_row q 1) (of_row q 2) (of_row q 3))
+    → ((b : ℕ) (r : Row) → b < 16 → let q : Row = get_or c.rows b r in IsRow (get_or d.rows b r) (λ y. F y (of_row q 0) (of_row q 1) (of_row q 2) (of_row q 3)))
     → nibbles d ≡ cube (λ i. let p : ℕ = 4 * (i / 4) in F (i % 4) (at (nibbles c) p) (at (nibbles c) (p + 1)) (at (nibbles c) (p + 2)) (at (nibbles c) (p + 3)))
 columns F c d each = is_rows d (λ b y. F y (at (nibbles c) (4 * b)) (at (nibbles c) (4 * b + 1)) (at (nibbles c) (4 * b + 2)) (at (nibbles c) (4 * b + 3))) (λ b r h y l.
     let e₀ : of_row (get_or c.rows b r) 0 ≡ at (nibbles c) (4 * b) = row_is c b r h 0 (lit< tt) ∙ ap (at (nibbles c)) (add-zero (4 * b)) in
@@ -64,18 +59,13 @@ columns F c d each = is_rows d (λ b y. F y (at (nibbles c) (4 * b)) (at (nibble
 pub taken : (r : Row) (y : ℕ) {n : Nibble} → n ≡ get_or r.nibbles y n → y < 4 → n.value ≡ of_row r y
 taken r y {n} e l = ap (λ (n : Nibble). n.value) e ∙ nibble_is r y n l
 
-pub moved_is : (m : Move) (s : List ℕ) → moved_by m s ≡ cube (λ i. at s (source_of m i))
-unfolding SR_slice SR_slice⁻¹ SR_sheet SR_sheet⁻¹ rotated
-moved_is (There Slices) s = refl
-moved_is (Back Slices) s = refl
-moved_is (There Sheets) s = refl
-moved_is (Back Sheets) s = refl
-moved_is Rotation s = refl
+-- the nibbles that a shift takes, by a turn
+pub same_places : (s : List ℕ) (f g : ℕ → ℕ) → T (below (λ i. eqb (f i) (g i)) 64) → cube (λ i. at s (f i)) ≡ cube (λ i. at s (g i))
+same_places s f g t = same_table 64 _ _ (λ i h. ap (at s) (same_below f g 64 t i h))
 
 -- a cube with one function at even y and another at odd y
 pub boxes : (even odd : ℕ → ℕ) (c d : Cube)
-    → ((b : ℕ) (r : Row) → b < 16 → (y : ℕ) → y < 4
-    → let n : ℕ = of_row (get_or c.rows b r) y in of_row (get_or d.rows b r) y ≡ cond (y % 2 == 0) (even n) (odd n))
+    → ((b : ℕ) (r : Row) → b < 16 → IsRow (get_or d.rows b r) (λ y. let n : ℕ = of_row (get_or c.rows b r) y in cond (y % 2 == 0) (even n) (odd n)))
     → nibbles d ≡ cube (λ i. cond (i % 2 == 0) (even (at (nibbles c) i)) (odd (at (nibbles c) i)))
 boxes even odd c d each = is_cube d _ (λ b r h y l.
     each b r h y l

@@ -1,35 +1,11 @@
 -- Steps of the cipher with a parameter in place of what differs between them.
 use Rattle.std.specs.Prelude.{ℕ, ◌+◌, ◌*◌, ◌/◌, ◌%◌, List}
 use Rattle.saturnin.specs.Bits.{bit, nibble}
-use Rattle.saturnin.specs.Cube.{Cube, cube, at}
-use Rattle.saturnin.specs.Layers.{slice_from, slice_to, sheet_from, sheet_to, SR_slice, SR_slice⁻¹, SR_sheet, SR_sheet⁻¹}
-use Rattle.saturnin.specs.Rounds.{rotated}
-use Rattle.saturnin_cube.specs.declared.moves.Move.{Move}
-use Rattle.saturnin_cube.specs.declared.moves.Move.TheVariants.{There, Back, Rotation}
-use Rattle.saturnin_cube.specs.declared.moves.Shift.{Shift}
-use Rattle.saturnin_cube.specs.declared.moves.Shift.TheVariants.{Slices, Sheets}
+use Rattle.saturnin.specs.Cube.{Cube, cube, at, index, x_of, y_of, z_of}
 
--- a shift, and the way back from it
-abbrev pub there : Shift → Cube → Cube
-there Slices s = SR_slice s
-there Sheets s = SR_sheet s
-
-abbrev pub back : Shift → Cube → Cube
-back Slices s = SR_slice⁻¹ s
-back Sheets s = SR_sheet⁻¹ s
-
--- a move of nibbles, and the index from which nibble i comes
-abbrev pub moved_by : Move → Cube → Cube
-moved_by (There shift) s = there shift s
-moved_by (Back shift) s = back shift s
-moved_by Rotation s = rotated s
-
-abbrev pub source_of : Move → ℕ → ℕ
-source_of (There Slices) i = slice_from i
-source_of (Back Slices) i = slice_to i
-source_of (There Sheets) i = sheet_from i
-source_of (Back Sheets) i = sheet_to i
-source_of Rotation i = (i + 20) % 64
+-- the index from which nibble i comes, where at each step of y the slices turn by X and the sheets by Z
+abbrev pub turned_from : (X Z i : ℕ) → ℕ
+turned_from X Z i = index ((x_of i + X * y_of i) % 4) (y_of i) ((z_of i + Z * y_of i) % 4)
 
 -- nibble y of row b of sixteen registers, and the whole cube
 unfoldable pub nibble_in : (registers : List ℕ) (b y : ℕ) → ℕ

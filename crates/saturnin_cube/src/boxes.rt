@@ -2,7 +2,7 @@ ghost use Rattle.std.specs.Prelude.{◌≡◌, ℕ, ◌%◌, ◌<◌, cond, ◌=
 ghost use Rattle.saturnin.specs.Cube.{at};
 ghost use Rattle.saturnin.specs.Layers.{S};
 ghost use Rattle.saturnin.specs.Back.{S⁻¹};
-ghost use Rattle.saturnin_cube.specs.Nibbles.{of_row, nibbles};
+ghost use Rattle.saturnin_cube.specs.Nibbles.{of_row, IsRow, nibbles};
 
 use crate::nibble::Nibble;
 use crate::shape::{Cube, Row};
@@ -44,7 +44,7 @@ impl Nibble {
 impl Row {
     // One S-box at even y and another at odd y.
     fn through(self, even: SBox, odd: SBox) -> Row
-        ensures { (y : ℕ) → y < 4 → of_row result y ≡ cond (y % 2 == 0) (at even.table (of_row self y)) (at odd.table (of_row self y)) }
+        ensures { IsRow result (λ y. cond (y % 2 == 0) (at even.table (of_row self y)) (at odd.table (of_row self y))) }
     {
         let [a, b, c, d] = self.nibbles;
         Row {

@@ -1,6 +1,6 @@
-ghost use Rattle.std.specs.Prelude.{◌≡◌, ℕ, ◌<◌, length};
+ghost use Rattle.std.specs.Prelude.{◌≡◌, ◌<◌, length};
 ghost use Rattle.saturnin.specs.Cube.{table, register, to_cube, cube_register, from_cube};
-ghost use Rattle.saturnin_cube.specs.Nibbles.{of_row, nibbles};
+ghost use Rattle.saturnin_cube.specs.Nibbles.{IsRow, nibbles};
 ghost use Rattle.saturnin_cube.specs.Parts.{nibble_in};
 
 use crate::nibble::{Nibble, bit};
@@ -38,7 +38,7 @@ impl Registers {
 
     fn row(&self, b: usize) -> Row
         requires { b < 16 }
-        ensures { (y : ℕ) → y < 4 → of_row result y ≡ nibble_in self.now.all b y }
+        ensures { IsRow result (nibble_in self.now.all b) }
     {
         Row {
             nibbles: array::from_fn(|y| self.nibble(b, y)),

@@ -1,14 +1,14 @@
-ghost use Rattle.std.specs.Prelude.{◌≡◌, ℕ, ◌<◌};
+ghost use Rattle.std.specs.Prelude.{◌≡◌};
 ghost use Rattle.saturnin.specs.Layers.{M_row, MC};
 ghost use Rattle.saturnin.specs.Back.{M⁻¹_row, MC⁻¹};
-ghost use Rattle.saturnin_cube.specs.Nibbles.{of_row, nibbles};
+ghost use Rattle.saturnin_cube.specs.Nibbles.{of_row, IsRow, nibbles};
 
 use crate::shape::{Cube, Row};
 
 impl Row {
     // M, as a network of sums and alphas.
     fn mixed(self) -> Row
-        ensures { (y : ℕ) → y < 4 → of_row result y ≡ M_row y (of_row self 0) (of_row self 1) (of_row self 2) (of_row self 3) }
+        ensures { IsRow result (λ y. M_row y (of_row self 0) (of_row self 1) (of_row self 2) (of_row self 3)) }
     {
         let [a, b, c, d] = self.nibbles;
         let a = a ^ b;
@@ -24,7 +24,7 @@ impl Row {
 
     // The same network from its end to its start.
     fn mixed_back(self) -> Row
-        ensures { (y : ℕ) → y < 4 → of_row result y ≡ M⁻¹_row y (of_row self 0) (of_row self 1) (of_row self 2) (of_row self 3) }
+        ensures { IsRow result (λ y. M⁻¹_row y (of_row self 0) (of_row self 1) (of_row self 2) (of_row self 3)) }
     {
         let [a, b, c, d] = self.nibbles;
         let d = d ^ a;

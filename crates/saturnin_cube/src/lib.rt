@@ -26,6 +26,7 @@ impl Cipher for CubeForm {
 
     ghost gives_blocks = { λ c. forward-gives_blocks };
 
+    #[tactic(auto, unfolding(saturnin::specs::Rounds::forward))]
     fn encrypt_block(&self, key: &[u8; 32], by: Parameters, block: &[u8; 32]) -> [u8; 32] {
         Cube::load(block).encrypted(Cube::load(key), by).store()
     }
@@ -36,6 +37,7 @@ impl TwoWayCipher for CubeForm {
 
     ghost two_way = { λ c. forward-two_way };
 
+    #[tactic(auto, unfolding(saturnin::specs::Back::back))]
     fn decrypt_block(&self, key: &[u8; 32], by: Parameters, block: &[u8; 32]) -> [u8; 32] {
         Cube::load(block).decrypted(Cube::load(key), by).store()
     }

@@ -1,61 +1,102 @@
-ghost use Rattle.std.specs.Prelude.{◌≡◌, ℕ, ◌+◌, ◌*◌, ◌<◌};
-ghost use Rattle.saturnin.specs.Cube.{at};
-ghost use Rattle.saturnin_cube.specs.Nibbles.{of_row, nibbles};
-ghost use Rattle.saturnin_cube.specs.Parts.{moved_by, source_of};
+ghost use Rattle.std.specs.Prelude.{◌≡◌, ◌+◌, ◌*◌, ◌<◌};
+ghost use Rattle.saturnin.specs.Cube.{Cube as CubeOf, cube, at};
+ghost use Rattle.saturnin.specs.Layers.{SR_slice, SR_slice⁻¹, SR_sheet, SR_sheet⁻¹};
+ghost use Rattle.saturnin.specs.Rounds.{rotated};
+ghost use Rattle.saturnin_cube.specs.Nibbles.{IsRow, nibbles};
+ghost use Rattle.saturnin_cube.specs.Parts.{turned_from};
 
 use crate::shape::{Cube, Row};
 use std::array;
 
-// The shifts of nibbles.
+// Nibble (x, y, z) comes from (x + X y, y, z + Z y), modulo 4: at each step of y the slices turn by X and the sheets by Z.
 #[derive(Clone, Copy)]
-pub(crate) enum Shift {
-    Slices,
-    Sheets,
+struct Turn {
+    x: usize,
+    z: usize,
+    ghost small: { (x < 4) × (z < 4) },
 }
 
-// The moves of nibbles: a shift, the way back from it, and the rotation of the key.
-#[derive(Clone, Copy)]
-pub(crate) enum Move {
-    There(Shift),
-    Back(Shift),
-    Rotation,
-}
-
-impl Move {
+impl Turn {
     // The row whose nibble y comes to row b.
     fn source(self, b: usize, y: usize) -> usize
         requires { (b < 16) × (y < 4) }
-        ensures is { 4 * result + y ≡ source_of self (4 * b + y) }
+        ensures is { 4 * result + y ≡ turned_from self.x self.z (4 * b + y) }
         ensures small { result < 16 }
     {
-        let x = b % 4;
-        let z = b / 4;
-        match self {
-            Move::There(Shift::Slices) => (x + 4 - y) % 4 + 4 * z,
-            Move::Back(Shift::Slices) => (x + y) % 4 + 4 * z,
-            Move::There(Shift::Sheets) => x + 4 * ((z + 4 - y) % 4),
-            Move::Back(Shift::Sheets) => x + 4 * ((z + y) % 4),
-            Move::Rotation => (b + 5) % 16,
-        }
+        (b % 4 + self.x * y) % 4 + 4 * ((b / 4 + self.z * y) % 4)
     }
 }
 
 impl Cube {
-    // Row b after a move.
-    fn moved_row(&self, by: Move, b: usize) -> Row
+    // Row b after a turn.
+    fn turned_row(&self, by: Turn, b: usize) -> Row
         requires { b < 16 }
-        ensures { (y : ℕ) → y < 4 → of_row result y ≡ at (nibbles self.now) (source_of by (4 * b + y)) }
+        ensures { IsRow result (λ y. at (nibbles self.now) (turned_from by.x by.z (4 * b + y))) }
     {
         Row {
             nibbles: array::from_fn(|y| self.row(by.source(b, y)).nibble(y)),
         }
     }
 
-    pub(crate) fn moved(self, by: Move) -> Cube
-        ensures { nibbles result ≡ moved_by by (nibbles self) }
+    fn turned(self, by: Turn) -> Cube
+        ensures { nibbles result ≡ cube (λ i. at (nibbles self) (turned_from by.x by.z i)) }
     {
         Cube {
-            rows: array::from_fn(|b| self.moved_row(by, b)),
+            rows: array::from_fn(|b| self.turned_row(by, b)),
         }
+    }
+
+    // The rotated key: every row comes from five rows on.
+    pub(crate) fn rotated(self) -> Cube
+        ensures { nibbles result ≡ rotated (nibbles self) }
+    {
+        Cube {
+            rows: array::from_fn(|b| self.row((b + 5) % 16)),
+        }
+    }
+}
+
+// A shift of nibbles, and the way back from it.
+pub(crate) trait Shift {
+    ghost there: { CubeOf → CubeOf };
+
+    ghost back: { CubeOf → CubeOf };
+
+    fn there(s: Cube) -> Cube
+        ensures { nibbles result ≡ there (nibbles s) };
+
+    fn back(s: Cube) -> Cube
+        ensures { nibbles result ≡ back (nibbles s) };
+}
+
+pub(crate) struct Slices;
+
+impl Shift for Slices {
+    ghost there = { SR_slice };
+
+    ghost back = { SR_slice⁻¹ };
+
+    fn there(s: Cube) -> Cube {
+        s.turned(Turn { x: 3, z: 0 })
+    }
+
+    fn back(s: Cube) -> Cube {
+        s.turned(Turn { x: 1, z: 0 })
+    }
+}
+
+pub(crate) struct Sheets;
+
+impl Shift for Sheets {
+    ghost there = { SR_sheet };
+
+    ghost back = { SR_sheet⁻¹ };
+
+    fn there(s: Cube) -> Cube {
+        s.turned(Turn { x: 0, z: 3 })
+    }
+
+    fn back(s: Cube) -> Cube {
+        s.turned(Turn { x: 0, z: 1 })
     }
 }

@@ -4,9 +4,8 @@ ghost use Rattle.saturnin.specs.Rounds.{constants, rounds};
 ghost use Rattle.saturnin.specs.Back.{rounds⁻¹};
 ghost use Rattle.saturnin.specs.TwoRounds.{super_round as super_round_of, super_round⁻¹};
 ghost use Rattle.saturnin_cube.specs.Nibbles.{nibbles};
-ghost use Rattle.saturnin_cube.specs.Parts.{there, back};
 
-use crate::moves::{Move, Shift};
+use crate::moves::{Sheets, Shift, Slices};
 use crate::shape::Cube;
 use saturnin::{Parameters, RoundConstants, Schedule};
 
@@ -14,25 +13,23 @@ impl Cube {
     fn plus_subkey(self, key: Cube, c: RoundConstants) -> Cube
         ensures { nibbles result ≡ add (nibbles key) (add (constants c.rc0 c.rc1) (nibbles self)) }
     {
-        self.plus(Cube::constants(c)).plus(key)
+        self ^ Cube::constants(c) ^ key
     }
 
-    fn super_round(self, shift: Shift, key: Cube, c: RoundConstants) -> Cube
-        ensures { nibbles result ≡ super_round_of (there shift) (back shift) (nibbles key) c.rc0 c.rc1 (nibbles self) }
+    #[tactic(auto, unfolding(saturnin::specs::TwoRounds::super_round))]
+    fn super_round<T: Shift>(self, key: Cube, c: RoundConstants) -> Cube
+        ensures { nibbles result ≡ super_round_of T.there T.back (nibbles key) c.rc0 c.rc1 (nibbles self) }
     {
         let s = self.s_boxes().mixed().s_boxes();
-        let s = s.moved(Move::There(shift)).mixed().moved(Move::Back(shift));
+        let s = T::back(T::there(s).mixed());
         s.plus_subkey(key, c)
     }
 
-    fn super_round_back(self, shift: Shift, key: Cube, c: RoundConstants) -> Cube
-        ensures { nibbles result ≡ super_round⁻¹ (there shift) (back shift) (nibbles key) c.rc0 c.rc1 (nibbles self) }
+    fn super_round_back<T: Shift>(self, key: Cube, c: RoundConstants) -> Cube
+        ensures { nibbles result ≡ super_round⁻¹ T.there T.back (nibbles key) c.rc0 c.rc1 (nibbles self) }
     {
         let s = self.plus_subkey(key, c);
-        let s = s
-            .moved(Move::There(shift))
-            .mixed_back()
-            .moved(Move::Back(shift));
+        let s = T::back(T::there(s).mixed_back());
         s.s_boxes_back().mixed_back().s_boxes_back()
     }
 
@@ -41,14 +38,14 @@ impl Cube {
     pub(crate) fn encrypted(self, key: Cube, by: Parameters) -> Cube
         ensures { nibbles result ≡ rounds (nibbles key) by.d by.r (2 * by.r) (add (nibbles key) (nibbles self)) }
     {
-        let rotated = key.moved(Move::Rotation);
+        let rotated = key.rotated();
         let schedule = Schedule::new(by);
-        let mut s = self.plus(key);
+        let mut s = self ^ key;
         for (i, c) in schedule.rounds[..by.r as usize].iter().enumerate() {
             s = if i % 2 == 0 {
-                s.super_round(Shift::Slices, rotated, *c)
+                s.super_round::<Slices>(rotated, *c)
             } else {
-                s.super_round(Shift::Sheets, key, *c)
+                s.super_round::<Sheets>(key, *c)
             };
         }
         s
@@ -57,16 +54,16 @@ impl Cube {
     pub(crate) fn decrypted(self, key: Cube, by: Parameters) -> Cube
         ensures { nibbles result ≡ add (nibbles key) (rounds⁻¹ (nibbles key) by.d by.r (2 * by.r) (nibbles self)) }
     {
-        let rotated = key.moved(Move::Rotation);
+        let rotated = key.rotated();
         let schedule = Schedule::new(by);
         let mut s = self;
         for (i, c) in schedule.rounds[..by.r as usize].iter().enumerate().rev() {
             s = if i % 2 == 0 {
-                s.super_round_back(Shift::Slices, rotated, *c)
+                s.super_round_back::<Slices>(rotated, *c)
             } else {
-                s.super_round_back(Shift::Sheets, key, *c)
+                s.super_round_back::<Sheets>(key, *c)
             };
         }
-        s.plus(key)
+        s ^ key
     }
 }

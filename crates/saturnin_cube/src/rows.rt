@@ -1,6 +1,6 @@
-ghost use Rattle.std.specs.Prelude.{◌≡◌, ℕ, ◌+◌, ◌*◌, ◌<◌};
+ghost use Rattle.std.specs.Prelude.{◌≡◌, ◌+◌, ◌*◌, ◌<◌};
 ghost use Rattle.saturnin.specs.Cube.{at};
-ghost use Rattle.saturnin_cube.specs.Nibbles.{of_row, nibbles};
+ghost use Rattle.saturnin_cube.specs.Nibbles.{of_row, IsRow, nibbles};
 
 use crate::nibble::Nibble;
 use crate::shape::{Cube, Row};
@@ -17,7 +17,7 @@ impl Row {
 impl Cube {
     pub(crate) fn row(&self, b: usize) -> Row
         requires { b < 16 }
-        ensures { (y : ℕ) → y < 4 → of_row result y ≡ at (nibbles self.now) (4 * b + y) }
+        ensures { IsRow result (λ y. at (nibbles self.now) (4 * b + y)) }
     {
         self.rows[b]
     }

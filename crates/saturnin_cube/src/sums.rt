@@ -1,28 +1,45 @@
-ghost use Rattle.std.specs.Prelude.{◌≡◌, ℕ, ◌<◌, [], ◌∷◌, bit_xor};
+ghost use Rattle.std.specs.Prelude.{◌≡◌, ◌<◌, [], ◌∷◌, bit_xor};
 ghost use Rattle.saturnin.specs.Bits.{bit as bit_of};
 ghost use Rattle.saturnin.specs.Cube.{at};
 ghost use Rattle.saturnin.specs.Layers.{add};
 ghost use Rattle.saturnin.specs.Rounds.{constants as constants_of};
-ghost use Rattle.saturnin_cube.specs.Nibbles.{of_row, nibbles};
+ghost use Rattle.saturnin_cube.specs.Nibbles.{of_row, IsRow, nibbles};
 
 use crate::nibble::bit;
 use crate::shape::{Cube, Row};
 use saturnin::RoundConstants;
 use std::array;
+use std::ops::BitXor;
 
-impl Row {
-    fn plus(self, other: Row) -> Row
-        ensures { (y : ℕ) → y < 4 → of_row result y ≡ bit_xor (of_row self y) (of_row other y) }
-    {
+impl BitXor for Row {
+    type Output = Row;
+
+    ghost bitxor_gives = { λ p q r. IsRow r (λ y. bit_xor (of_row p y) (of_row q y)) };
+
+    fn bitxor(self, other: Row) -> Row {
         Row {
             nibbles: array::from_fn(|y| self.nibble(y) ^ other.nibble(y)),
         }
     }
+}
 
+impl BitXor for Cube {
+    type Output = Cube;
+
+    ghost bitxor_gives = { λ s k r. nibbles r ≡ add (nibbles k) (nibbles s) };
+
+    fn bitxor(self, key: Cube) -> Cube {
+        Cube {
+            rows: array::from_fn(|b| self.row(b) ^ key.row(b)),
+        }
+    }
+}
+
+impl Row {
     // Row b of the cube of two round constants.
     fn constants(c: RoundConstants, b: usize) -> Row
         requires { b < 16 }
-        ensures { (y : ℕ) → y < 4 → of_row result y ≡ at (bit_of c.rc0 b ∷ 0 ∷ bit_of c.rc1 b ∷ 0 ∷ []) y }
+        ensures { IsRow result (at (bit_of c.rc0 b ∷ 0 ∷ bit_of c.rc1 b ∷ 0 ∷ [])) }
     {
         Row {
             nibbles: [
@@ -36,14 +53,6 @@ impl Row {
 }
 
 impl Cube {
-    pub(crate) fn plus(self, key: Cube) -> Cube
-        ensures { nibbles result ≡ add (nibbles key) (nibbles self) }
-    {
-        Cube {
-            rows: array::from_fn(|b| self.row(b).plus(key.row(b))),
-        }
-    }
-
     pub(crate) fn constants(c: RoundConstants) -> Cube
         ensures { nibbles result ≡ constants_of c.rc0 c.rc1 }
     {

@@ -49,6 +49,7 @@ pub(crate) fn store(s: State) -> [u8; 32]
     let words = [
         s.even.a, s.even.b, s.even.c, s.even.d, s.odd.a, s.odd.b, s.odd.c, s.odd.d,
     ];
+    // By index: a word goes to four places, two in each half; a function of the byte's index would shift by amounts that vary.
     let mut bytes = [0; 32];
     for (j, word) in words.iter().enumerate() {
         let [low, high, upper_low, upper_high] = word.to_le_bytes();

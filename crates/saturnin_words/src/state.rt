@@ -101,6 +101,7 @@ impl State {
         }
     }
 
+    #[tactic(auto, unfolding(saturnin::specs::TwoRounds::super_round))]
     pub(crate) fn super_round<T: Shift>(self, key: State, word: u32) -> State
         ensures { cube_of result ≡ super_round T.there T.back (cube_of key) (word % 65536) (word / 65536) (cube_of self) }
     {

@@ -31,7 +31,7 @@ loop-i-preserved-then-i-eq0 c =
     let even : length left % 2 ≡ 0 = omega (arith, steps.1.1, c.loop-i.invariant.counted, c.if-i-eq0.true) in record {
       counted = search rules;
       in_turn = others D R left _ (subst (InTurn D R) steps.1.0 c.loop-i.invariant.in_turn);
-      so_far = back D R k _ left _ steps.1.0 c.loop-i.invariant.in_turn (slices k D R (length left) even) _ _ (rw (← c.moved-rotated.ensures) c.super_round_back-s.ensures) ∙ c.loop-i.invariant.so_far;
+      so_far = back D R k _ left _ steps.1.0 c.loop-i.invariant.in_turn (slices k D R (length left) even) _ _ (rw (← c.rotated-rotated.ensures) c.super_round_back-s.ensures) ∙ c.loop-i.invariant.so_far;
     }
 
 pub loop-i-preserved : goal.loop-i-preserved
@@ -51,5 +51,5 @@ pub returns : goal.returns
 unfolding rounds⁻¹
 returns c =
     let k = nibbles c.args.key in
-    c.plus.ensures
+    c.bitxor.ensures
     ∙ ap (add k) (ap (λ n. rounds⁻¹ k c.args.by.d c.args.by.r (2 * n) (nibbles c.loop-i.s)) (sym c.in-None.ensures.steps.1.0) ∙ c.loop-i.invariant.so_far)

@@ -18,6 +18,6 @@ loop-i-preserved c =
     let R = c.args.by.r in
     let of = in_turn D R c.new-schedule.result.rounds _ c.new-schedule.ensures.rc0 c.new-schedule.ensures.rc1 i _ c.loop-i-test.true in
     elim c.if-i-eq0.branch [
-      | then-i-eq0 w ↦ ap nibbles w.s-is ∙ w.super_round-s.ensures ∙ rw (c.moved-rotated.ensures, c.loop-i.invariant) (step D R k i _ of (slices k D R i w.if-i-eq0.true) _)
+      | then-i-eq0 w ↦ ap nibbles w.s-is ∙ w.super_round-s.ensures ∙ rw (c.rotated-rotated.ensures, c.loop-i.invariant) (step D R k i _ of (slices k D R i w.if-i-eq0.true) _)
       | else-i-eq0 w ↦ ap nibbles w.s-is ∙ w.super_round-s-else-i-eq0.ensures ∙ rw c.loop-i.invariant (step D R k i _ of (sheets k D R i (omega arith)) _)
     ]

@@ -3,4 +3,4 @@ use Rattle.saturnin_cube.proofs.shape.Cube.super_round_back.Goals as goal
 
 pub returns : goal.returns
 unfolding super_round⁻¹
-returns c = cc
+returns g c = cc

@@ -1,8 +1,6 @@
 use Rattle.std.proofs.Common.{rules}
-use Rattle.saturnin.specs.Layers.{add}
 use Rattle.saturnin_cube.proofs.Made.{made_cube}
-use Rattle.saturnin_cube.proofs.shape.Cube.plus.Goals as goal
+use Rattle.saturnin_cube.proofs.shape.Cube.turned.Goals as goal
 
 pub returns : goal.returns
-unfolding add
 returns c = made_cube _ _ _ _ (λ b r q lt called. (search rules, search rules)) c.from_fn.ensures.items
