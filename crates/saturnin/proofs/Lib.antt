@@ -8,3 +8,5 @@ pub mod Conversions
 pub mod Laws
 pub mod TwoRounds
 pub mod Made
+pub mod Schedules
+pub mod Turns

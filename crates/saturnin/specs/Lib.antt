@@ -2,6 +2,7 @@ pub mod Bits
 pub mod Cube
 pub mod Layers
 pub mod Rounds
+pub mod Schedules
 pub mod Back
 pub mod TwoRounds
 pub mod Meaning

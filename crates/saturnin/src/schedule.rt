@@ -1,36 +1,50 @@
-ghost use Rattle.std.specs.Prelude.{◌≡◌, ◌+◌, ◌*◌, ◌<◌, map};
+ghost use Rattle.std.specs.Prelude.{◌≡◌, ◌+◌, ◌*◌, ◌<◌};
 ghost use Rattle.saturnin.specs.Cube.{table};
-ghost use Rattle.saturnin.specs.Rounds.{clock, clocked, RC₀, RC₁};
+ghost use Rattle.saturnin.specs.Rounds.{clock, clocked};
+ghost use Rattle.saturnin.specs.Schedules.{Scheduled};
 
 use crate::parameters::Parameters;
 use std::array;
 
-// The two constants of a super-round.
+// The two constants of a super-round, RC0 and RC1.
 #[derive(Clone, Copy)]
-pub struct RoundConstants {
-    pub rc0: u16,
-    pub rc1: u16,
+pub struct RoundConstants(pub u16, pub u16);
+
+// The constants of a cipher, a pair for each of its super-rounds.
+#[derive(Clone, Copy)]
+pub struct Constants<'a> {
+    pub of: Parameters,
+    pub rounds: &'a [RoundConstants],
+    ghost scheduled: { Scheduled of.d of.r of.r rounds.now },
 }
 
-// The constants of super-rounds 0 to 30; a cipher of R super-rounds uses the first R.
+// The constants of super-rounds 0 to 30, by the clocking.
 #[derive(Clone, Copy)]
 pub struct Schedule {
+    pub of: Parameters,
     pub rounds: [RoundConstants; 31],
+    ghost scheduled: { Scheduled of.d of.r 31 rounds },
 }
 
 impl Schedule {
-    pub fn new(by: Parameters) -> Schedule
-        ensures rc0 { map (λ (c : RoundConstants). c.rc0) result.rounds ≡ table 31 (RC₀ by.d by.r) }
-        ensures rc1 { map (λ (c : RoundConstants). c.rc1) result.rounds ≡ table 31 (RC₁ by.d by.r) }
+    pub fn new(of: Parameters) -> Schedule
+        ensures { result.of ≡ of }
     {
-        let start = 0xfe00 + 16 * by.r as u16 + by.d as u16;
+        let start = 0xfe00 + 16 * of.r as u16 + of.d as u16;
         let rc0 = clockings(0x002d, start);
         let rc1 = clockings(0x0053, start);
-        let rounds = array::from_fn(|i| RoundConstants {
-            rc0: rc0[i],
-            rc1: rc1[i],
-        });
-        Schedule { rounds }
+        let rounds = array::from_fn(|i| RoundConstants(rc0[i], rc1[i]));
+        Schedule { of, rounds }
+    }
+
+    // Those that the cipher uses.
+    pub fn constants(&self) -> Constants<'_>
+        ensures { result.of ≡ self.now.of }
+    {
+        Constants {
+            of: self.of,
+            rounds: &self.rounds[..self.of.r as usize],
+        }
     }
 }
 

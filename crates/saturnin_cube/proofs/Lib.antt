@@ -2,4 +2,3 @@ mod Flags
 mod Loads
 mod Made
 mod Nibbles
-mod Steps

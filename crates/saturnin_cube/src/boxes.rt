@@ -1,33 +1,31 @@
 ghost use Rattle.std.specs.Prelude.{◌≡◌, ℕ, ◌%◌, ◌<◌, cond, ◌==◌, length, slice_index};
 ghost use Rattle.saturnin.specs.Cube.{at};
-ghost use Rattle.saturnin.specs.Layers.{S};
-ghost use Rattle.saturnin.specs.Back.{S⁻¹};
-ghost use Rattle.saturnin_cube.specs.Nibbles.{of_row, IsRow, nibbles};
+ghost use Rattle.saturnin_cube.specs.Nibbles.{of_row, IsRow};
 
 use crate::nibble::Nibble;
-use crate::shape::{Cube, Row};
+use crate::shape::Row;
 
 // An S-box, by its table.
 #[derive(Clone, Copy)]
-struct SBox {
+pub(crate) struct SBox {
     table: [u8; 16],
     ghost whole: { length table ≡ 16 },
     ghost small: { (v : ℕ) → slice_index table v < 16 },
 }
 
-const SIGMA0: SBox = SBox {
+pub(crate) const SIGMA0: SBox = SBox {
     table: [0, 6, 14, 1, 15, 4, 7, 13, 9, 8, 12, 5, 2, 10, 3, 11],
 };
 
-const SIGMA1: SBox = SBox {
+pub(crate) const SIGMA1: SBox = SBox {
     table: [0, 9, 13, 2, 15, 1, 11, 7, 6, 4, 5, 3, 8, 12, 10, 14],
 };
 
-const SIGMA0_BACK: SBox = SBox {
+pub(crate) const SIGMA0_BACK: SBox = SBox {
     table: [0, 3, 12, 14, 5, 11, 1, 6, 9, 8, 13, 15, 10, 7, 2, 4],
 };
 
-const SIGMA1_BACK: SBox = SBox {
+pub(crate) const SIGMA1_BACK: SBox = SBox {
     table: [0, 5, 3, 11, 9, 10, 8, 7, 12, 1, 14, 6, 13, 2, 15, 4],
 };
 
@@ -43,7 +41,7 @@ impl Nibble {
 
 impl Row {
     // One S-box at even y and another at odd y.
-    fn through(self, even: SBox, odd: SBox) -> Row
+    pub(crate) fn through(self, even: SBox, odd: SBox) -> Row
         ensures { IsRow result (λ y. cond (y % 2 == 0) (at even.table (of_row self y)) (at odd.table (of_row self y))) }
     {
         let [a, b, c, d] = self.nibbles;
@@ -54,25 +52,6 @@ impl Row {
                 c.through(even),
                 d.through(odd),
             ],
-        }
-    }
-}
-
-// S and its inverse, and M and its inverse elsewhere, are defined apart, so each has a function with its own promise.
-impl Cube {
-    pub(crate) fn s_boxes(self) -> Cube
-        ensures { nibbles result ≡ S (nibbles self) }
-    {
-        Cube {
-            rows: self.rows.map(|row| row.through(SIGMA0, SIGMA1)),
-        }
-    }
-
-    pub(crate) fn s_boxes_back(self) -> Cube
-        ensures { nibbles result ≡ S⁻¹ (nibbles self) }
-    {
-        Cube {
-            rows: self.rows.map(|row| row.through(SIGMA0_BACK, SIGMA1_BACK)),
         }
     }
 }

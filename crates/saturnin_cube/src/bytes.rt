@@ -1,5 +1,5 @@
 ghost use Rattle.std.specs.Prelude.{◌≡◌, ◌<◌, length};
-ghost use Rattle.saturnin.specs.Cube.{table, register, to_cube, cube_register, from_cube};
+ghost use Rattle.saturnin.specs.Cube.{table, register, cube_register};
 ghost use Rattle.saturnin_cube.specs.Nibbles.{IsRow, nibbles};
 ghost use Rattle.saturnin_cube.specs.Parts.{nibble_in};
 
@@ -9,13 +9,13 @@ use std::array;
 
 // The sixteen registers of a block: bit k of nibble y of row b is bit b of register 4y + k.
 #[derive(Clone, Copy)]
-struct Registers {
+pub(crate) struct Registers {
     all: [u16; 16],
     ghost sixteen: { length all ≡ 16 },
 }
 
 impl Registers {
-    fn of(bytes: &[u8; 32]) -> Registers
+    pub(crate) fn of(bytes: &[u8; 32]) -> Registers
         ensures { result.all ≡ table 16 (register bytes.now) }
     {
         Registers {
@@ -36,7 +36,7 @@ impl Registers {
         )
     }
 
-    fn row(&self, b: usize) -> Row
+    pub(crate) fn row(&self, b: usize) -> Row
         requires { b < 16 }
         ensures { IsRow result (nibble_in self.now.all b) }
     {
@@ -47,17 +47,8 @@ impl Registers {
 }
 
 impl Cube {
-    pub(crate) fn load(bytes: &[u8; 32]) -> Cube
-        ensures { nibbles result ≡ to_cube bytes.now }
-    {
-        let registers = Registers::of(bytes);
-        Cube {
-            rows: array::from_fn(|b| registers.row(b)),
-        }
-    }
-
     // Register g, back from the cube.
-    fn register(&self, g: usize) -> u16
+    pub(crate) fn register(&self, g: usize) -> u16
         requires { g < 16 }
         ensures { result ≡ cube_register (nibbles self.now) g }
     {
@@ -66,12 +57,5 @@ impl Cube {
             x += (row.nibble(g / 4).bit(g % 4) as u16) << b;
         }
         x
-    }
-
-    pub(crate) fn store(self) -> [u8; 32]
-        ensures { result ≡ from_cube (nibbles self) }
-    {
-        let registers: [u16; 16] = array::from_fn(|g| self.register(g));
-        array::from_fn(|m| registers[m / 2].to_le_bytes()[m % 2])
     }
 }

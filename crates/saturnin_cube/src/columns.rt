@@ -1,13 +1,12 @@
-ghost use Rattle.std.specs.Prelude.{◌≡◌};
-ghost use Rattle.saturnin.specs.Layers.{M_row, MC};
-ghost use Rattle.saturnin.specs.Back.{M⁻¹_row, MC⁻¹};
-ghost use Rattle.saturnin_cube.specs.Nibbles.{of_row, IsRow, nibbles};
+ghost use Rattle.saturnin.specs.Layers.{M_row};
+ghost use Rattle.saturnin.specs.Back.{M⁻¹_row};
+ghost use Rattle.saturnin_cube.specs.Nibbles.{of_row, IsRow};
 
-use crate::shape::{Cube, Row};
+use crate::shape::Row;
 
 impl Row {
     // M, as a network of sums and alphas.
-    fn mixed(self) -> Row
+    pub(crate) fn mixed(self) -> Row
         ensures { IsRow result (λ y. M_row y (of_row self 0) (of_row self 1) (of_row self 2) (of_row self 3)) }
     {
         let [a, b, c, d] = self.nibbles;
@@ -23,7 +22,7 @@ impl Row {
     }
 
     // The same network from its end to its start.
-    fn mixed_back(self) -> Row
+    pub(crate) fn mixed_back(self) -> Row
         ensures { IsRow result (λ y. M⁻¹_row y (of_row self 0) (of_row self 1) (of_row self 2) (of_row self 3)) }
     {
         let [a, b, c, d] = self.nibbles;
@@ -35,24 +34,6 @@ impl Row {
         let b = (b ^ c).alpha_back();
         Row {
             nibbles: [a ^ b, b, c ^ d, d],
-        }
-    }
-}
-
-impl Cube {
-    pub(crate) fn mixed(self) -> Cube
-        ensures { nibbles result ≡ MC (nibbles self) }
-    {
-        Cube {
-            rows: self.rows.map(Row::mixed),
-        }
-    }
-
-    pub(crate) fn mixed_back(self) -> Cube
-        ensures { nibbles result ≡ MC⁻¹ (nibbles self) }
-    {
-        Cube {
-            rows: self.rows.map(Row::mixed_back),
         }
     }
 }

@@ -3,9 +3,9 @@
 mod boxes;
 mod bytes;
 mod columns;
+mod form;
 mod moves;
 mod nibble;
-mod rounds;
 mod rows;
 mod shape;
 mod sums;
@@ -15,7 +15,7 @@ ghost use Rattle.saturnin.specs.Back.{back};
 ghost use Rattle.saturnin.proofs.Laws.{forward-gives_blocks, forward-two_way};
 
 use crate::shape::Cube;
-use saturnin::{Cipher, Parameters, TwoWayCipher};
+use saturnin::{Cipher, Parameters, Schedule, TwoWayCipher, decrypted, encrypted};
 
 // The block cipher Saturnin on a cube of nibbles: the form that follows its definition step by step.
 #[derive(Clone, Copy)]
@@ -26,9 +26,8 @@ impl Cipher for CubeForm {
 
     ghost gives_blocks = { λ c. forward-gives_blocks };
 
-    #[tactic(auto, unfolding(saturnin::specs::Rounds::forward))]
     fn encrypt_block(&self, key: &[u8; 32], by: Parameters, block: &[u8; 32]) -> [u8; 32] {
-        Cube::load(block).encrypted(Cube::load(key), by).store()
+        encrypted::<Cube>(Schedule::new(by).constants(), key, block)
     }
 }
 
@@ -37,8 +36,7 @@ impl TwoWayCipher for CubeForm {
 
     ghost two_way = { λ c. forward-two_way };
 
-    #[tactic(auto, unfolding(saturnin::specs::Back::back))]
     fn decrypt_block(&self, key: &[u8; 32], by: Parameters, block: &[u8; 32]) -> [u8; 32] {
-        Cube::load(block).decrypted(Cube::load(key), by).store()
+        decrypted::<Cube>(Schedule::new(by).constants(), key, block)
     }
 }

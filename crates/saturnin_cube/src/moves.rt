@@ -1,7 +1,5 @@
 ghost use Rattle.std.specs.Prelude.{◌≡◌, ◌+◌, ◌*◌, ◌<◌};
-ghost use Rattle.saturnin.specs.Cube.{Cube as CubeOf, cube, at};
-ghost use Rattle.saturnin.specs.Layers.{SR_slice, SR_slice⁻¹, SR_sheet, SR_sheet⁻¹};
-ghost use Rattle.saturnin.specs.Rounds.{rotated};
+ghost use Rattle.saturnin.specs.Cube.{cube, at};
 ghost use Rattle.saturnin_cube.specs.Nibbles.{IsRow, nibbles};
 ghost use Rattle.saturnin_cube.specs.Parts.{turned_from};
 
@@ -10,9 +8,9 @@ use std::array;
 
 // Nibble (x, y, z) comes from (x + X y, y, z + Z y), modulo 4: at each step of y the slices turn by X and the sheets by Z.
 #[derive(Clone, Copy)]
-struct Turn {
-    x: usize,
-    z: usize,
+pub(crate) struct Turn {
+    pub(crate) x: usize,
+    pub(crate) z: usize,
     ghost small: { (x < 4) × (z < 4) },
 }
 
@@ -38,65 +36,11 @@ impl Cube {
         }
     }
 
-    fn turned(self, by: Turn) -> Cube
+    pub(crate) fn turned(self, by: Turn) -> Cube
         ensures { nibbles result ≡ cube (λ i. at (nibbles self) (turned_from by.x by.z i)) }
     {
         Cube {
             rows: array::from_fn(|b| self.turned_row(by, b)),
         }
-    }
-
-    // The rotated key: every row comes from five rows on.
-    pub(crate) fn rotated(self) -> Cube
-        ensures { nibbles result ≡ rotated (nibbles self) }
-    {
-        Cube {
-            rows: array::from_fn(|b| self.row((b + 5) % 16)),
-        }
-    }
-}
-
-// A shift of nibbles, and the way back from it.
-pub(crate) trait Shift {
-    ghost there: { CubeOf → CubeOf };
-
-    ghost back: { CubeOf → CubeOf };
-
-    fn there(s: Cube) -> Cube
-        ensures { nibbles result ≡ there (nibbles s) };
-
-    fn back(s: Cube) -> Cube
-        ensures { nibbles result ≡ back (nibbles s) };
-}
-
-pub(crate) struct Slices;
-
-impl Shift for Slices {
-    ghost there = { SR_slice };
-
-    ghost back = { SR_slice⁻¹ };
-
-    fn there(s: Cube) -> Cube {
-        s.turned(Turn { x: 3, z: 0 })
-    }
-
-    fn back(s: Cube) -> Cube {
-        s.turned(Turn { x: 1, z: 0 })
-    }
-}
-
-pub(crate) struct Sheets;
-
-impl Shift for Sheets {
-    ghost there = { SR_sheet };
-
-    ghost back = { SR_sheet⁻¹ };
-
-    fn there(s: Cube) -> Cube {
-        s.turned(Turn { x: 0, z: 3 })
-    }
-
-    fn back(s: Cube) -> Cube {
-        s.turned(Turn { x: 0, z: 1 })
     }
 }

@@ -39,13 +39,13 @@ impl Row {
     // Row b of the cube of two round constants.
     fn constants(c: RoundConstants, b: usize) -> Row
         requires { b < 16 }
-        ensures { IsRow result (at (bit_of c.rc0 b ∷ 0 ∷ bit_of c.rc1 b ∷ 0 ∷ [])) }
+        ensures { IsRow result (at (bit_of c.0 b ∷ 0 ∷ bit_of c.1 b ∷ 0 ∷ [])) }
     {
         Row {
             nibbles: [
-                bit(c.rc0, b).into(),
+                bit(c.0, b).into(),
                 false.into(),
-                bit(c.rc1, b).into(),
+                bit(c.1, b).into(),
                 false.into(),
             ],
         }
@@ -54,7 +54,7 @@ impl Row {
 
 impl Cube {
     pub(crate) fn constants(c: RoundConstants) -> Cube
-        ensures { nibbles result ≡ constants_of c.rc0 c.rc1 }
+        ensures { nibbles result ≡ constants_of c.0 c.1 }
     {
         Cube {
             rows: array::from_fn(|b| Row::constants(c, b)),

@@ -4,5 +4,4 @@ pub mod Quads
 pub mod Columns
 pub mod Halves
 pub mod Loading
-pub mod Turns
 pub mod Schedules

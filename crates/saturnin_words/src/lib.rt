@@ -1,21 +1,20 @@
 #![tactic(auto)]
 
 mod bytes;
-mod constants;
+mod form;
 mod moves;
 mod quad;
-mod rounds;
-mod shifts;
 mod state;
 mod tables;
 
+ghost use Rattle.std.specs.Prelude.{◌≡◌};
 ghost use Rattle.saturnin.specs.Rounds.{forward};
 ghost use Rattle.saturnin.specs.Back.{back};
 ghost use Rattle.saturnin.proofs.Laws.{forward-gives_blocks, forward-two_way};
 
-use bytes::{load, store};
-use rounds::{decrypted, encrypted};
-use saturnin::{Cipher, Parameters, TwoWayCipher};
+use saturnin::{Cipher, Parameters, TwoWayCipher, decrypted, encrypted};
+use state::State;
+use tables::with_constants;
 
 // Saturnin in eight 32-bit words, with the S-boxes by AND, OR and XOR.
 #[derive(Clone, Copy)]
@@ -26,9 +25,13 @@ impl Cipher for WordForm {
 
     ghost gives_blocks = { λ c. forward-gives_blocks };
 
-    #[tactic(auto, unfolding(saturnin::specs::Rounds::forward))]
     fn encrypt_block(&self, key: &[u8; 32], by: Parameters, block: &[u8; 32]) -> [u8; 32] {
-        store(encrypted(load(key), by, load(block)))
+        with_constants(
+            by,
+            |constants|
+                ensures { result ≡ forward key.entry.now constants.entry.of.d constants.entry.of.r block.entry.now }
+            { encrypted::<State>(constants, key, block) },
+        )
     }
 }
 
@@ -37,8 +40,12 @@ impl TwoWayCipher for WordForm {
 
     ghost two_way = { λ c. forward-two_way };
 
-    #[tactic(auto, unfolding(saturnin::specs::Back::back))]
     fn decrypt_block(&self, key: &[u8; 32], by: Parameters, block: &[u8; 32]) -> [u8; 32] {
-        store(decrypted(load(key), by, load(block)))
+        with_constants(
+            by,
+            |constants|
+                ensures { result ≡ back key.entry.now constants.entry.of.d constants.entry.of.r block.entry.now }
+            { decrypted::<State>(constants, key, block) },
+        )
     }
 }

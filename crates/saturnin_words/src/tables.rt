@@ -1,151 +1,150 @@
-ghost use Rattle.std.specs.Prelude.{IfSome, take};
-ghost use Rattle.saturnin_words.specs.Schedules.{Scheduled};
+ghost use Rattle.std.specs.Prelude.{◌≡◌, IfSome};
 
-use saturnin::{Parameters, RoundConstants, Schedule};
-use std::array;
+use saturnin::{Constants, Parameters, RoundConstants, Schedule};
 
 // The constants of the separators and counts that the modes use: separators 1 to 6 with 10 super-rounds, and 7 and 8 with
-// 16. A word is RC0 + 65,536 × RC1.
-static OF_TEN: [[u32; 10]; 6] = [
+// 16. A pair is RC0 and RC1.
+static OF_TEN: [[RoundConstants; 10]; 6] = [
     // separator 1
     [
-        0x4eb0_26c2,
-        0x9059_5303,
-        0xaa8f_e632,
-        0xfe92_8a92,
-        0x4115_a419,
-        0x9353_9532,
-        0x5db1_cc4e,
-        0x5415_15ca,
-        0xbd1f_55a8,
-        0x5a6e_1a0d,
+        RoundConstants(0x26c2, 0x4eb0),
+        RoundConstants(0x5303, 0x9059),
+        RoundConstants(0xe632, 0xaa8f),
+        RoundConstants(0x8a92, 0xfe92),
+        RoundConstants(0xa419, 0x4115),
+        RoundConstants(0x9532, 0x9353),
+        RoundConstants(0xcc4e, 0x5db1),
+        RoundConstants(0x15ca, 0x5415),
+        RoundConstants(0x55a8, 0xbd1f),
+        RoundConstants(0x1a0d, 0x5a6e),
     ],
     // separator 2
     [
-        0x4e45_26b5,
-        0xa356_5ff0,
-        0x0f8f_20d8,
-        0x0b54_bee1,
-        0x7d1a_6c9d,
-        0x17a6_280a,
-        0xaa46_c986,
-        0xc119_9062,
-        0x182c_5cde,
-        0xa00d_53fe,
+        RoundConstants(0x26b5, 0x4e45),
+        RoundConstants(0x5ff0, 0xa356),
+        RoundConstants(0x20d8, 0x0f8f),
+        RoundConstants(0xbee1, 0x0b54),
+        RoundConstants(0x6c9d, 0x7d1a),
+        RoundConstants(0x280a, 0x17a6),
+        RoundConstants(0xc986, 0xaa46),
+        RoundConstants(0x9062, 0xc119),
+        RoundConstants(0x5cde, 0x182c),
+        RoundConstants(0x53fe, 0xa00d),
     ],
     // separator 3
     [
-        0x4e16_2698,
-        0xb253_5ba1,
-        0x6c8f_9d65,
-        0x5816_ad30,
-        0x691f_d4fa,
-        0x6bf5_bcf9,
-        0xf8eb_3525,
-        0xb21d_ecfa,
-        0x7b3d_a417,
-        0xf62c_94b4,
+        RoundConstants(0x2698, 0x4e16),
+        RoundConstants(0x5ba1, 0xb253),
+        RoundConstants(0x9d65, 0x6c8f),
+        RoundConstants(0xad30, 0x5816),
+        RoundConstants(0xd4fa, 0x691f),
+        RoundConstants(0xbcf9, 0x6bf5),
+        RoundConstants(0x3525, 0xf8eb),
+        RoundConstants(0xecfa, 0xb21d),
+        RoundConstants(0xa417, 0x7b3d),
+        RoundConstants(0x94b4, 0xf62c),
     ],
     // separator 4
     [
-        0x4faf_265b,
-        0xc548_4616,
-        0x45dc_ad21,
-        0xe08b_d607,
-        0x0504_fdb8,
-        0x1e1f_5257,
-        0x45fb_c216,
-        0xeb52_9b1f,
-        0x5219_4e32,
-        0x5498_c018,
+        RoundConstants(0x265b, 0x4faf),
+        RoundConstants(0x4616, 0xc548),
+        RoundConstants(0xad21, 0x45dc),
+        RoundConstants(0xd607, 0xe08b),
+        RoundConstants(0xfdb8, 0x0504),
+        RoundConstants(0x5257, 0x1e1f),
+        RoundConstants(0xc216, 0x45fb),
+        RoundConstants(0x9b1f, 0xeb52),
+        RoundConstants(0x4e32, 0x5219),
+        RoundConstants(0xc018, 0x5498),
     ],
     // separator 5
     [
-        0x4ffc_2676,
-        0xd44d_4247,
-        0x26dc_109c,
-        0xb3c9_c5d6,
-        0x1101_45df,
-        0x624c_c6a4,
-        0x1756_3eb5,
-        0x9856_e787,
-        0x3108_b6fb,
-        0x02b9_0752,
+        RoundConstants(0x2676, 0x4ffc),
+        RoundConstants(0x4247, 0xd44d),
+        RoundConstants(0x109c, 0x26dc),
+        RoundConstants(0xc5d6, 0xb3c9),
+        RoundConstants(0x45df, 0x1101),
+        RoundConstants(0xc6a4, 0x624c),
+        RoundConstants(0x3eb5, 0x1756),
+        RoundConstants(0xe787, 0x9856),
+        RoundConstants(0xb6fb, 0x3108),
+        RoundConstants(0x0752, 0x02b9),
     ],
     // separator 6
     [
-        0x4f09_2601,
-        0xe742_4eb4,
-        0x83dc_d676,
-        0x460f_f1a5,
-        0x2d0e_8d5b,
-        0xe6b9_7b9c,
-        0xe0a1_3b7d,
-        0x0d5a_622f,
-        0x943b_bf8d,
-        0xf8da_4ea1,
+        RoundConstants(0x2601, 0x4f09),
+        RoundConstants(0x4eb4, 0xe742),
+        RoundConstants(0xd676, 0x83dc),
+        RoundConstants(0xf1a5, 0x460f),
+        RoundConstants(0x8d5b, 0x2d0e),
+        RoundConstants(0x7b9c, 0xe6b9),
+        RoundConstants(0x3b7d, 0xe0a1),
+        RoundConstants(0x622f, 0x0d5a),
+        RoundConstants(0xbf8d, 0x943b),
+        RoundConstants(0x4ea1, 0xf8da),
     ],
 ];
 
-static OF_SIXTEEN: [[u32; 16]; 2] = [
+static OF_SIXTEEN: [[RoundConstants; 16]; 2] = [
     // separator 7
     [
-        0x3fba_180c,
-        0x563a_b9ab,
-        0x125e_a5ef,
-        0x859d_a26c,
-        0xb8cf_779b,
-        0x7d4d_e793,
-        0x07ef_b49f,
-        0x8d52_5306,
-        0x1e08_e6ab,
-        0x4172_9f87,
-        0x8c4a_ef0a,
-        0x4aa0_c9a7,
-        0xd93a_95ef,
-        0xbb00_d2af,
-        0xb62c_5bf0,
-        0x386d_94d8,
+        RoundConstants(0x180c, 0x3fba),
+        RoundConstants(0xb9ab, 0x563a),
+        RoundConstants(0xa5ef, 0x125e),
+        RoundConstants(0xa26c, 0x859d),
+        RoundConstants(0x779b, 0xb8cf),
+        RoundConstants(0xe793, 0x7d4d),
+        RoundConstants(0xb49f, 0x07ef),
+        RoundConstants(0x5306, 0x8d52),
+        RoundConstants(0xe6ab, 0x1e08),
+        RoundConstants(0x9f87, 0x4172),
+        RoundConstants(0xef0a, 0x8c4a),
+        RoundConstants(0xc9a7, 0x4aa0),
+        RoundConstants(0x95ef, 0xd93a),
+        RoundConstants(0xd2af, 0xbb00),
+        RoundConstants(0x5bf0, 0xb62c),
+        RoundConstants(0x94d8, 0x386d),
     ],
     // separator 8
     [
-        0x3c9b_19a7,
-        0xa909_8694,
-        0x23f8_78da,
-        0xa7b6_47d3,
-        0x74fc_9d78,
-        0xeaca_ae11,
-        0x2f31_a677,
-        0x4cc8_c054,
-        0x2f51_ca05,
-        0x5268_f195,
-        0x4f5b_8a2b,
-        0xf614_b4ac,
-        0xf1d9_5401,
-        0x764d_2568,
-        0x6a49_3611,
-        0x8eef_9c3e,
+        RoundConstants(0x19a7, 0x3c9b),
+        RoundConstants(0x8694, 0xa909),
+        RoundConstants(0x78da, 0x23f8),
+        RoundConstants(0x47d3, 0xa7b6),
+        RoundConstants(0x9d78, 0x74fc),
+        RoundConstants(0xae11, 0xeaca),
+        RoundConstants(0xa677, 0x2f31),
+        RoundConstants(0xc054, 0x4cc8),
+        RoundConstants(0xca05, 0x2f51),
+        RoundConstants(0xf195, 0x5268),
+        RoundConstants(0x8a2b, 0x4f5b),
+        RoundConstants(0xb4ac, 0xf614),
+        RoundConstants(0x5401, 0xf1d9),
+        RoundConstants(0x2568, 0x764d),
+        RoundConstants(0x3611, 0x6a49),
+        RoundConstants(0x9c3e, 0x8eef),
     ],
 ];
 
-// The words of the constants from the table, for a separator and a count that some mode uses.
-pub(crate) fn mode_words(of: Parameters) -> Option<&'static [u32]>
-    ensures { IfSome result (λ words. Scheduled of.d of.r words.now) }
+// The constants from the table, for a separator and a count that some mode uses.
+fn mode_constants(of: Parameters) -> Option<Constants<'static>>
+    ensures { IfSome result (λ c. c.of ≡ of) }
 {
-    match (of.d, of.r) {
-        (1..=6, 10) => Some(&OF_TEN[of.d as usize - 1]),
-        (7..=8, 16) => Some(&OF_SIXTEEN[of.d as usize - 7]),
-        _ => None,
-    }
+    let rounds: &[RoundConstants] = match (of.d, of.r) {
+        (1..=6, 10) => &OF_TEN[of.d as usize - 1],
+        (7..=8, 16) => &OF_SIXTEEN[of.d as usize - 7],
+        _ => return None,
+    };
+    Some(Constants { of, rounds })
 }
 
-// The words of the constants, by the clocking; the cipher uses the first R.
-pub(crate) fn clocked_words(of: Parameters) -> [u32; 31]
-    ensures { Scheduled of.d of.r (take of.r result) }
+// The constants are from the table where a mode uses them, and else by the clocking.
+pub(crate) fn with_constants<F: FnOnce(Constants<'_>) -> [u8; 32]>(of: Parameters, f: F) -> [u8; 32]
+    requires { F.IsAlwaysCallable f }
+    ensures { (constants : _) × (constants.of ≡ of) × F.post f constants result }
 {
-    let schedule = Schedule::new(of);
-    array::from_fn(|i| {
-        let RoundConstants { rc0, rc1 } = schedule.rounds[i];
-        u32::from(rc0) + 65536 * u32::from(rc1)
-    })
+    match mode_constants(of) {
+        Some(constants) => f(constants),
+        None => f(Schedule::new(of).constants()),
+    }
 }

@@ -8,5 +8,5 @@ use Rattle.saturnin_cube.proofs.shape.Cube.constants.Goals as goal
 pub returns : goal.returns
 unfolding constants
 returns c =
-    made_rows _ _ (λ b y. at (bit c.args.c.rc0 b ∷ 0 ∷ bit c.args.c.rc1 b ∷ 0 ∷ []) y) _
+    made_rows _ _ (λ b y. at (bit c.args.c.0 b ∷ 0 ∷ bit c.args.c.1 b ∷ 0 ∷ []) y) _
     (λ b r q lt called. (search rules, search rules)) c.from_fn.ensures.items

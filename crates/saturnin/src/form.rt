@@ -1,0 +1,53 @@
+ghost use Rattle.std.specs.Prelude.{◌≡◌, List};
+ghost use Rattle.saturnin.specs.Cube.{Cube, to_cube, from_cube};
+ghost use Rattle.saturnin.specs.Layers.{S, MC, SR_slice, SR_slice⁻¹, SR_sheet, SR_sheet⁻¹, add};
+ghost use Rattle.saturnin.specs.Back.{S⁻¹, MC⁻¹};
+ghost use Rattle.saturnin.specs.Rounds.{constants, rotated};
+
+use crate::schedule::RoundConstants;
+use std::ops::BitXor;
+
+// A form of the cube: what holds one, and the layers of the cipher on it. The rounds are written once, over any form.
+pub trait Form: Copy + BitXor<Output = Self> {
+    ghost cube: { Self → Cube };
+
+    fn load(block: &[u8; 32]) -> Self
+        ensures { cube result ≡ to_cube block.now };
+
+    fn store(self) -> [u8; 32]
+        ensures { result ≡ from_cube (cube self) };
+
+    fn s_boxes(self) -> Self
+        ensures { cube result ≡ S (cube self) };
+
+    fn s_boxes_back(self) -> Self
+        ensures { cube result ≡ S⁻¹ (cube self) };
+
+    fn columns(self) -> Self
+        ensures { cube result ≡ MC (cube self) };
+
+    fn columns_back(self) -> Self
+        ensures { cube result ≡ MC⁻¹ (cube self) };
+
+    fn slices(self) -> Self
+        ensures { cube result ≡ SR_slice (cube self) };
+
+    fn slices_back(self) -> Self
+        ensures { cube result ≡ SR_slice⁻¹ (cube self) };
+
+    fn sheets(self) -> Self
+        ensures { cube result ≡ SR_sheet (cube self) };
+
+    fn sheets_back(self) -> Self
+        ensures { cube result ≡ SR_sheet⁻¹ (cube self) };
+
+    fn rotated(self) -> Self
+        ensures { cube result ≡ rotated (cube self) };
+
+    fn plus_constants(self, c: RoundConstants) -> Self
+        ensures { cube result ≡ add (constants c.0 c.1) (cube self) };
+
+    ghost can_add: { (s key : Self) → Self.can_bitxor s key };
+
+    ghost adds: { (s key sum : Self) → Self.bitxor_gives s key sum → cube sum ≡ add (cube key) (cube s) };
+}
