@@ -17,6 +17,7 @@ pub trait Form: Copy + BitXor<Output = Self> {
     fn store(self) -> [u8; 32]
         ensures { result ≡ from_cube (cube self) };
 
+    // A layer and the way back from it have definitions of their own, so each is a function of its own.
     fn s_boxes(self) -> Self
         ensures { cube result ≡ S (cube self) };
 
