@@ -16,16 +16,19 @@ fn locks_and_unlocks(rt: HostRuntime) -> Result<(), Fail> {
     assert!(rt; fs::read(&rt, "rose.again")?.as_slice() == b"a rose window".as_slice());
     assert_eq!(rt;
         refusal(unlock_file(&rt, files("other", "rose.locked", "never"))),
-        11
+        Some(11)
     );
     assert_eq!(rt;
         refusal(unlock_file(&rt, files("short", "rose.locked", "never"))),
-        1
+        Some(1)
     );
-    assert_eq!(rt; refusal(unlock_file(&rt, files("key", "rose", "never"))), 1);
+    assert_eq!(rt;
+        refusal(unlock_file(&rt, files("key", "rose", "never"))),
+        Some(1)
+    );
     assert_eq!(rt;
         refusal(lock_file(&rt, None, files("short", "rose", "never"))),
-        1
+        Some(1)
     );
     assert!(rt; fs::read(&rt, "never").is_err());
     Ok(())
@@ -35,9 +38,10 @@ fn files<'a>(key: &'a str, from: &'a str, to: &'a str) -> Files<'a> {
     Files { key, from, to }
 }
 
-fn refusal(done: Result<(), Problem>) -> u8 {
+// The number of a refusal.
+fn refusal(done: Result<(), Problem>) -> Option<u8> {
     match done {
-        Err(Problem::Unmade(Unmade::Refused(fault))) => fault.number(),
-        _ => 0,
+        Err(Problem::Unmade(Unmade::Refused(fault))) => Some(fault.number()),
+        _ => None,
     }
 }

@@ -204,10 +204,7 @@ impl From<ModeFault> for BoxFault {
     ghost from_gives = { λ f r. r ≡ from_mode f };
 
     fn from(f: ModeFault) -> BoxFault {
-        BoxFault {
-            cause: BoxCause::Mode(f.cause),
-            place: None,
-        }
+        BoxCause::Mode(f.cause).into()
     }
 }
 

@@ -20,7 +20,8 @@ impl Text {
     }
 }
 
-// The lines `NAME = VALUE` of a record up to a blank line.
+// The lines `NAME = VALUE` of a record up to a blank line. What every record has is 0, or empty, until its line comes; the others
+// say what kind of record it is.
 #[derive(Drop)]
 pub(crate) struct Record {
     pub(crate) count: u32,

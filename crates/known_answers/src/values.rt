@@ -4,7 +4,7 @@ use modes::Cascade;
 use saturnin::TwoWayCipher;
 use std::alloc::{AllocError, Global};
 
-// Why there is no value.
+// Why there is no value. As in `desk`, which this test does not stand on.
 #[derive(Drop)]
 pub(crate) enum NoValue {
     Refused(ModeFault),
@@ -33,47 +33,53 @@ pub(crate) fn value<C: TwoWayCipher>(
 ) -> Result<Vec<u8>, NoValue> {
     let key = record.key.as_slice();
     let nonce = record.nonce.as_deref();
+    let (d, r) = (record.d, record.r);
+    let text_nonce = nonce.unwrap_or(&[]);
+    let under = |associated| Cascade {
+        cipher: form,
+        key,
+        nonce: text_nonce,
+        associated,
+    };
     match (text, record.associated.as_deref(), nonce) {
-        (Text::Message(message), _, _) => hashed(form, heap, message),
+        (Text::Message(message), _, _) => {
+            after(
+                vec![in heap; 0; 32]?,
+                |digest| modes::hash(form, message, digest),
+            )
+        }
         (Text::Plain(message), Some(associated), _) => {
-            let nonce = nonce.unwrap_or(&[]);
-            let under = Cascade {
-                cipher: form,
-                key,
-                nonce,
-                associated,
-            };
+            let under = under(associated);
             sealed(heap, &under, message)
         }
         (Text::Cipher(text), Some(associated), _) => {
-            let nonce = nonce.unwrap_or(&[]);
-            let under = Cascade {
-                cipher: form,
-                key,
-                nonce,
-                associated,
-            };
+            let under = under(associated);
             opened(heap, &under, text)
         }
-        (Text::Plain(message), None, Some(nonce)) => sealed_short(form, heap, key, nonce, message),
+        (Text::Plain(message), None, Some(nonce)) => after(vec![in heap; 0; 32]?, |block| {
+            modes::seal_short(form, key, nonce, message, block)
+        }),
         (Text::Cipher(block), None, Some(nonce)) => opened_short(form, heap, key, nonce, block),
-        (Text::Plain(text), None, None) => {
-            let mut block = text.clone()?;
-            form.encrypt(key, record.d, record.r, &mut block)?;
-            Ok(block)
-        }
-        (Text::Cipher(text), None, None) => {
-            let mut block = text.clone()?;
-            form.decrypt(key, record.d, record.r, &mut block)?;
-            Ok(block)
-        }
+        (Text::Plain(text), None, None) => after(
+            text.clone()?,
+            |block| form.encrypt(key, d, r, block),
+        ),
+        (Text::Cipher(text), None, None) => after(
+            text.clone()?,
+            |block| form.decrypt(key, d, r, block),
+        ),
     }
 }
 
-fn hashed<C: TwoWayCipher>(form: &C, heap: Global, message: &[u8]) -> Result<Vec<u8>, NoValue> {
-    let mut digest = vec![in heap; 0; 32]?;
-    modes::hash(form, message, &mut digest)?;
-    Ok(digest)
+// The bytes, as a call leaves them.
+fn after<F: FnOnce(&mut [u8]) -> Result<(), ModeFault>>(
+    mut bytes: Vec<u8>,
+    call: F,
+) -> Result<Vec<u8>, NoValue>
+    requires { F.IsAlwaysCallable call }
+{
+    call(&mut bytes)?;
+    Ok(bytes)
 }
 
 // Ciphertext and tag.
@@ -96,21 +102,10 @@ fn opened<C: TwoWayCipher>(
     text: &[u8],
 ) -> Result<Vec<u8>, NoValue> {
     let (text, tag) = text.split_at(text.len().saturating_sub(32));
-    let mut out = vec![in heap; 0; text.len()]?;
-    under.open(text, tag, &mut out)?;
-    Ok(out)
-}
-
-fn sealed_short<C: TwoWayCipher>(
-    form: &C,
-    heap: Global,
-    key: &[u8],
-    nonce: &[u8],
-    message: &[u8],
-) -> Result<Vec<u8>, NoValue> {
-    let mut block = vec![in heap; 0; 32]?;
-    modes::seal_short(form, key, nonce, message, &mut block)?;
-    Ok(block)
+    after(
+        vec![in heap; 0; text.len()]?,
+        |out| under.open(text, tag, out),
+    )
 }
 
 fn opened_short<C: TwoWayCipher>(

@@ -29,6 +29,7 @@ pub fn lock<C: Cipher>(
         nonce,
         associated: MAGIC,
     };
+    // Not refused: the lengths are those that sealing takes.
     let _ = under.seal(message, &mut file[56..], &mut tag);
     paste(file, 0, MAGIC);
     paste(file, 4, nonce);

@@ -36,7 +36,7 @@ padded_is size s ys l e =
 
 pub wide_is : (n : ℕ) (ys : List ℕ) → n < 2 ^ 64
     → ys ≡ (n / 72057594037927936 % 256) ∷ (n / 281474976710656 % 256) ∷ (n / 1099511627776 % 256) ∷ (n / 4294967296 % 256) ∷ (n / 16777216 % 256) ∷ (n / 65536 % 256) ∷ (n / 256 % 256) ∷ (n % 256) ∷ []
-    → take 24 (replicate 32 0) ++ (ys ++ []) ≡ big_endian 32 n
+    → zeros 24 ++ ys ≡ big_endian 32 n
 unfolding big_endian
 wide_is n ys h e =
     let z : n / 18446744073709551616 ≡ 0 = omega arith in

@@ -2,6 +2,7 @@ ghost use Rattle.std.specs.Prelude.{◌≡◌, ◌<◌, T, length};
 ghost use Rattle.octets.specs.Octets.{big_endian as big_endian_of};
 ghost use Rattle.modes.specs.Bytes.{padded, xor as xored};
 
+use octets::joined;
 use std::array;
 
 pub(crate) fn xor(a: &[u8; 32], b: &[u8; 32]) -> [u8; 32]
@@ -10,7 +11,7 @@ pub(crate) fn xor(a: &[u8; 32], b: &[u8; 32]) -> [u8; 32]
     array::from_fn(|i| a[i] ^ b[i])
 }
 
-// Whether two blocks are the same. All bytes are looked at, also after a difference.
+// Whether two blocks are the same. `==` would end at the first difference; by a rule of the project all bytes are looked at.
 pub(crate) fn same(a: &[u8; 32], b: &[u8; 32]) -> bool
     ensures yes { T result → a.now ≡ b.now }
     ensures no { a.now ≡ b.now → T result }
@@ -34,7 +35,5 @@ pub(crate) fn pad<const N: usize>(s: &[u8]) -> [u8; N]
 pub(crate) fn big_endian(n: u64) -> [u8; 32]
     ensures { result ≡ big_endian_of 32 n }
 {
-    let mut out = [0; 32];
-    out[24..].copy_from_slice(&n.to_be_bytes());
-    out
+    joined(&[0; 24], &n.to_be_bytes())
 }

@@ -15,7 +15,8 @@ fn link<C: Cipher>(cipher: &C, by: Parameters, t: &[u8; 32], a: &[u8; 32]) -> [u
     xor(a, &cipher.encrypt_block(t, by, a))
 }
 
-// A chain: it takes blocks by separator D, and a tail, which it holds padded, by separator LAST, with R super-rounds.
+// A chain: it takes blocks by separator D, and a tail, which it holds padded, by separator LAST, with R super-rounds. That the
+// cipher stays stands in each clause: nothing is known of a part of a `&mut self` but what a clause says.
 #[derive(Drop)]
 pub struct Chain<'a, C, const D: u8, const LAST: u8, const R: u8> {
     pub(crate) cipher: &'a C,

@@ -20,7 +20,7 @@ pub fn paste(bytes: &mut [u8], from: usize, part: &[u8])
     }
 }
 
-// One text after another, where they come to N bytes; else zeros.
+// One text after another, where they come to N bytes; else zeros, since a public function asks nothing of its callers.
 pub fn joined<const N: usize>(a: &[u8], b: &[u8]) -> [u8; N]
     ensures fitting { length a.now + length b.now ≡ N → result ≡ a.now ++ b.now }
     ensures other { length a.now + length b.now ≢ N → result ≡ zeros N }

@@ -9,7 +9,8 @@ pub(crate) fn cells_in(size: usize) -> usize
     (size / 1026).min(8192)
 }
 
-// The mark of a cell: the place of its record plus 1, or 0 where the cell is unused.
+// The mark of a cell, as it stands in the memory: the place of its record plus 1, or 0 where the cell is unused. These functions
+// take the memory as it is lent: a struct over it would be lent anew for each of them.
 fn mark(memory: &[u8], j: usize) -> u32
     requires { j < cells memory.now }
     ensures { result ≡ mark_of memory.now j }
@@ -41,7 +42,8 @@ pub(crate) fn has_gap(memory: &[u8]) -> bool
     (1..cells_in(memory.len())).any(|j| mark(memory, j - 1) == 0 && mark(memory, j) != 0)
 }
 
-// The last of the first n cells that has the mark of a place: the search goes on in the cells before.
+// The last of the first n cells that has the mark of a place. By a rule of the project the search calls itself on the cells
+// before, and is no `rfind`.
 pub(crate) fn last_cell_of(memory: &[u8], place: u32, n: usize) -> Option<usize>
     requires { (n ≤ cells memory.now) × (place < 4096) }
     ensures { result ≡ last_cell memory.now place n }

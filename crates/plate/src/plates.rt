@@ -8,7 +8,8 @@ use crate::cells::{cells_in, count_used, has_gap, last_cell_of, marks_fit};
 use faults::{ShelfCause, ShelfFault};
 use shelf::Shelf;
 
-// Cells in lent memory, at most 8,192, each written once; 1 to 4,096 places, or none where the memory is unfit.
+// Cells in lent memory, at most 8,192, each written once; 1 to 4,096 places, or none where the memory is unfit. As an Option
+// the count would be no plainer: an unfit plate is a shelf of 0 places.
 #[derive(Drop)]
 pub struct Plate<'a> {
     memory: &'a mut [u8],

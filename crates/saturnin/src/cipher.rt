@@ -43,8 +43,8 @@ pub trait TwoWayCipher: Cipher {
     ghost two_way: { (c : Self) → TwoWay (Self.Cipher.forward c) (back c) };
 }
 
-// What `encrypt` and `decrypt` share, so that they differ in the block function alone: what a call was handed, in the types
-// of the block functions, unless it is refused.
+// What `encrypt` and `decrypt` share: what a call was handed, in the types of the block functions, unless it is refused. They
+// differ in the block function alone; a function that takes it would be no shorter than the two lines that are left.
 fn admitted(
     key: &[u8],
     d: u8,

@@ -8,6 +8,9 @@ use crate::form::Form;
 use crate::schedule::{Constants, RoundConstants};
 use crate::shifts::{Sheets, Shift, Slices};
 
+// Forward and back are the same walk by other steps, whose contracts name other definitions: one function over both would be no
+// plainer.
+
 // The block that the cipher gives, worked in a form.
 #[tactic(auto, unfolding(crate::specs::Rounds::forward))]
 pub fn encrypted<F: Form>(constants: Constants, key: &[u8; 32], block: &[u8; 32]) -> [u8; 32]

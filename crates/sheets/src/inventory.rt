@@ -22,6 +22,7 @@ pub fn inventory_of<S: Shelf>(heap: Global, shelf: &S) -> Result<Vec<Entry>, All
     let mut entries = Vec::new(heap);
     for place in 0..shelf.count() {
         let mut bytes = [0; 1024];
+        // Not refused: the place is one of the shelf's, and the buffer as long as a record.
         let _ = shelf.get(place, &mut bytes);
         if !octets::is_zero(&bytes) {
             let number = number_in(&bytes);

@@ -7,7 +7,8 @@ ghost use Rattle.shelf.proofs.Trays.{tray_lawful};
 use faults::ShelfFault;
 use shelf::Shelf;
 
-// Places one after another in lent memory, at most 4,096, all of them always open.
+// Places one after another in lent memory, at most 4,096, all of them always open. The memory is one slice: its length need not
+// be one of whole places, and the bytes after them are the lender's.
 #[derive(Drop)]
 pub struct Tray<'a> {
     memory: &'a mut [u8],

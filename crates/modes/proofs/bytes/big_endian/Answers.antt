@@ -1,6 +1,8 @@
-use Rattle.std.proofs.Common.{◌∙◌}
+use Rattle.std.proofs.Common.{length, ap, ◌∙◌, arith}
 use Rattle.modes.proofs.Texts.{wide_is}
 use Rattle.modes.proofs.bytes.big_endian.Goals as goal
 
 pub returns : goal.returns
-returns c = wide_is c.args.n c.copy_from_slice.new.self c.ranges.n.fits (c.copy_from_slice.ensures.after ∙ c.to_be_bytes.ensures)
+returns c =
+    let k = c.to_be_bytes.ensures in
+    c.joined.ensures.fitting (omega (arith, ap length k)) ∙ wide_is c.args.n c.to_be_bytes.result c.ranges.n.fits k

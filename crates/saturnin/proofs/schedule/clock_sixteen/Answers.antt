@@ -5,11 +5,11 @@ use Rattle.saturnin.proofs.schedule.clock_sixteen.Goals as goal
 
 pub loop-i-init : goal.loop-i-init
 unfolding clocked
-loop-i-init c = refl
+loop-i-init g c = refl
 
 pub loop-i-preserved : goal.loop-i-preserved
-loop-i-preserved c =
-    c.clock_once-x.ensures ∙ ap (clock (65536 + c.args.taps)) c.loop-i.invariant ∙ clocked_more (65536 + c.args.taps) c.args.c c.loop-i._i
+loop-i-preserved g c =
+    c.clock_once-x.ensures ∙ ap (clock (65536 + g.row.TAPS)) c.loop-i.invariant ∙ clocked_more (65536 + g.row.TAPS) c.args.c c.loop-i._i
 
 pub returns : goal.returns
-returns c = c.loop-i.invariant ∙ ap (clocked (65536 + c.args.taps) c.args.c) (omega arith)
+returns g c = c.loop-i.invariant ∙ ap (clocked (65536 + g.row.TAPS) c.args.c) (omega arith)

@@ -6,11 +6,11 @@ use Rattle.saturnin.proofs.schedule.clockings.Goals as goal
 
 pub loop-constant-init : goal.loop-constant-init
 unfolding clocked
-loop-constant-init c = (refl, refl, λ k h. absurd (omega arith))
+loop-constant-init g c = (refl, refl, λ k h. absurd (omega arith))
 
 pub loop-constant-preserved : goal.loop-constant-preserved
-loop-constant-preserved c =
-    let P = 65536 + c.args.taps in
+loop-constant-preserved g c =
+    let P = 65536 + g.row.TAPS in
     let i = c.loop-constant.constant-index in
     let out = c.loop-constant.constant-items in
     let e : c.clock_sixteen-c.result ≡ clocked P c.args.start (16 * (i + 1)) =
@@ -23,4 +23,4 @@ loop-constant-preserved c =
     )
 
 pub returns : goal.returns
-returns c = is_table 31 _ c.loop-constant.constant-items c.loop-constant.invariant.1 (λ k h. c.loop-constant.invariant.2 k (omega arith))
+returns g c = is_table 31 _ c.loop-constant.constant-items c.loop-constant.invariant.1 (λ k h. c.loop-constant.invariant.2 k (omega arith))

@@ -3,6 +3,6 @@ use Rattle.saturnin.specs.Rounds.{clocked}
 use Rattle.saturnin.proofs.schedule.clockings.Given as goal
 
 abbrev pub invariant-loop-constant : goal.invariant-loop-constant
-invariant-loop-constant l =
-    (l.c ≡ clocked (65536 + l.taps) l.start (16 * l.constant-index)) × (length l.constant-items ≡ 31)
-    × ((k : ℕ) → k < l.constant-index → get_or l.constant-items k 0 ≡ clocked (65536 + l.taps) l.start (16 * (k + 1)))
+invariant-loop-constant g l =
+    (l.c ≡ clocked (65536 + g.row.TAPS) l.start (16 * l.constant-index)) × (length l.constant-items ≡ 31)
+    × ((k : ℕ) → k < l.constant-index → get_or l.constant-items k 0 ≡ clocked (65536 + g.row.TAPS) l.start (16 * (k + 1)))
