@@ -9,13 +9,14 @@ use Rattle.faults.specs.declared.ModeFault.{ModeFault}
 use Rattle.faults.specs.declared.BoxCause.{BoxCause}
 use Rattle.faults.specs.declared.BoxCause.TheVariants.{Mode}
 use Rattle.faults.specs.declared.BoxFault.{BoxFault}
-use Rattle.faults.proofs.Results.{never_both, same_error, same_value}
+use Rattle.faults.proofs.Results.{never_both, same_error}
 use Rattle.faults.proofs.Tables.{by_follows}
 use Rattle.sealing.specs.declared.found.Found.{Found}
 use Rattle.octets.specs.Octets.{part, written, big_endian}
 use Rattle.modes.proofs.Counting.{length-big_endian}
 use Rattle.saturnin.specs.Meaning.{BlockFunction}
 use Rattle.modes.specs.Cascade.{ctr, left, Opens}
+use Rattle.modes.proofs.Streams.{length-ctr}
 use Rattle.sheets.specs.Records.{empty}
 use Rattle.sheets.specs.Sheets.{associated, nonce_in, head_in, length_in, text_in, tag_in, WellFormed}
 use Rattle.sealing.specs.Sealing.{right_tag, form_table, open_sheet_table, message_in}
@@ -25,7 +26,7 @@ by_front : {Cause : Type 0} {P Q : Cause → Type 0} (D : Type 0) (rows more : T
 by_front D [] more f b = absurd b
 by_front D (row ∷ rows) more f b = (λ r. f row.1 (b.0 r), λ n. by_front D rows more f (b.1 n))
 
-pub form_refused : (f : BlockFunction) (key : List ℕ) (place : ℕ) (bytes : List ℕ) (fault : BoxFault) (result : Result ℕ BoxFault) (D : Type 0) → result ≡ Err fault
+pub form_refused : {A : Type 0} (f : BlockFunction) (key : List ℕ) (place : ℕ) (bytes : List ℕ) (fault : BoxFault) (result : Result A BoxFault) (D : Type 0) → result ≡ Err fault
     → By (form_table bytes) (λ cause. fault ≡ record { cause = cause; place = None }) ⊥
     → By (open_sheet_table f key place bytes) (λ cause. result ≡ Err (record { cause = cause; place = None })) D
 form_refused f key place bytes fault result D r b =
@@ -55,7 +56,7 @@ module _ (f : BlockFunction) (key : List ℕ) (place : ℕ) (bytes : List ℕ) (
         × (Not (Not (tag_in bytes ≡ right_tag f key place bytes)) → (answer ≡ Ok tt) × (out' ≡ ctr f key (nonce_in bytes) (text_in bytes)))
     rest = (same.1 (λ k. k (kl, ol ∙ sym text_long, simp length-drop (omega arith)))).1 (λ k. k (simp length-take (omega arith), omega (arith, data_long), omega (arith, text_long, is, formed.0)))
 
-    pub open_refused : (fault : ModeFault) (result : Result ℕ BoxFault) (D : Type 0) → answer ≡ Err fault → result ≡ Err (from_mode fault)
+    pub open_refused : {A : Type 0} (fault : ModeFault) (result : Result A BoxFault) (D : Type 0) → answer ≡ Err fault → result ≡ Err (from_mode fault)
         → By (open_sheet_table f key place bytes) (λ cause. result ≡ Err (record { cause = cause; place = None })) D
     open_refused fault result D a r = (
       λ h. absurd (there h),
@@ -68,39 +69,34 @@ module _ (f : BlockFunction) (key : List ℕ) (place : ℕ) (bytes : List ℕ) (
       ),
     )
 
-    pub open_done : (message : List ℕ) → answer ≡ Ok tt → message ≡ out'
-        → By (open_sheet_table f key place bytes) (λ cause. ◌≡◌ {A = Result ℕ BoxFault} (Ok n) (Err (record { cause = cause; place = None })))
-        ((◌≡◌ {A = Result ℕ BoxFault} (Ok n) (Ok (length_in bytes))) × (message ≡ message_in f key bytes))
-    open_done message a m = (
+    pub open_done : {A : Type 0} (x : A) (message : List ℕ) → answer ≡ Ok tt → message ≡ out'
+        → By (open_sheet_table f key place bytes) (λ cause. ◌≡◌ {A = Result A BoxFault} (Ok x) (Err (record { cause = cause; place = None })))
+        ((length message ≡ length_in bytes) × (message ≡ message_in f key bytes))
+    open_done x message a m = (
       λ h. absurd (there h),
       λ h. (
         λ k. absurd (k formed),
         λ k. (
           λ differs. absurd (never_both tt (record { cause = Tag }) (sym a ∙ (rest.0 differs).0)),
-          λ right. (ap Ok is, m ∙ (rest.1 right).1),
+          λ right.
+              let e : message ≡ message_in f key bytes = m ∙ (rest.1 right).1 in
+              (ap length e ∙ length-ctr f key (nonce_in bytes) (text_in bytes) ∙ text_long ∙ is, e),
         ),
       ),
     )
 
--- the same answers, with the number beside the length, and with the buffer made zero
-pub found : (table : Table BoxCause) (number number' n n' : ℕ) (message text bytes' after : List ℕ) → number ≡ number' → (n ≡ n' → message ≡ text → bytes' ≡ after)
-    → By table (λ cause. ◌≡◌ {A = Result ℕ BoxFault} (Ok n) (Err (record { cause = cause; place = None }))) ((◌≡◌ {A = Result ℕ BoxFault} (Ok n) (Ok n')) × (message ≡ text))
+-- the same answers, with the number and the length, and with the buffer made zero
+pub found : {A : Type 0} (table : Table BoxCause) (x : A) (number number' n n' : ℕ) (message text bytes bytes' : List ℕ) → number ≡ number' → n ≡ length message → bytes' ≡ written 64 message bytes
+    → By table (λ cause. ◌≡◌ {A = Result A BoxFault} (Ok x) (Err (record { cause = cause; place = None }))) ((length message ≡ n') × (message ≡ text))
     → By table (λ cause. (◌≡◌ {A = Result Found BoxFault} (Ok (record { number = number; length = n })) (Err (record { cause = cause; place = None }))) × (bytes' ≡ empty))
-    ((◌≡◌ {A = Result Found BoxFault} (Ok (record { number = number; length = n })) (Ok (record { number = number'; length = n' }))) × (bytes' ≡ after))
-found table number number' n n' message text bytes' after e w b =
-    by_follows table (λ c (r : ◌≡◌ {A = Result ℕ BoxFault} (Ok n) (Err (record { cause = c; place = None }))). absurd (never_both n _ r))
-    (λ (d : (◌≡◌ {A = Result ℕ BoxFault} (Ok n) (Ok n')) × (message ≡ text)).
-    let l : n ≡ n' = same_value n n' d.0 in (ap₂ (λ (x y : ℕ). Ok (record { number = x; length = y })) e l, w l d.1)) b
+    ((◌≡◌ {A = Result Found BoxFault} (Ok (record { number = number; length = n })) (Ok (record { number = number'; length = n' }))) × (bytes' ≡ take 64 bytes ++ (text ++ drop (64 + n') bytes)))
+found {A} table x number number' n n' message text bytes bytes' e l w b =
+    by_follows table (λ c (r : ◌≡◌ {A = Result A BoxFault} (Ok x) (Err (record { cause = c; place = None }))). absurd (never_both x _ r))
+    (λ (d : (length message ≡ n') × (message ≡ text)).
+    (ap₂ (λ (x y : ℕ). Ok (record { number = x; length = y })) e (l ∙ d.0), w ∙ ap₂ (λ m k. take 64 bytes ++ (m ++ drop (64 + k) bytes)) d.1 d.0)) b
 
--- a message of a known length in its place
-pub in_place : (room bytes : List ℕ) (n n' : ℕ) (text bytes' : List ℕ) → length (take n room) ≡ n → bytes' ≡ written 64 (take n room) bytes → n ≡ n' → take n' room ≡ text
-    → bytes' ≡ take 64 bytes ++ (text ++ drop (64 + n') bytes)
-in_place room bytes n n' text bytes' l w e t =
-    w ∙ ap₂ (λ m k. take 64 bytes ++ (m ++ drop (64 + k) bytes)) (ap (λ k. take k room) e ∙ t) (l ∙ e)
-
-pub wiped : (table : Table BoxCause) (fault : BoxFault) (n' : ℕ) (D D' : Type 0) (bytes' : List ℕ) → bytes' ≡ empty
-    → By table (λ cause. ◌≡◌ {A = Result ℕ BoxFault} (Err fault) (Err (record { cause = cause; place = None }))) ((◌≡◌ {A = Result ℕ BoxFault} (Err fault) (Ok n')) × D)
-    → By table (λ cause. (◌≡◌ {A = Result Found BoxFault} (Err fault) (Err (record { cause = cause; place = None }))) × (bytes' ≡ empty)) D'
-wiped table fault n' D D' bytes' e b =
-    by_follows table (λ c (r : ◌≡◌ {A = Result ℕ BoxFault} (Err fault) (Err (record { cause = c; place = None }))). (ap Err (same_error fault _ r), e))
-    (λ (d : (◌≡◌ {A = Result ℕ BoxFault} (Err fault) (Ok n')) × D). absurd (never_both n' fault (sym d.0))) b
+pub wiped : (A : Type 0) (table : Table BoxCause) (fault : BoxFault) (D : Type 0) (bytes' : List ℕ) → bytes' ≡ empty
+    → By table (λ cause. ◌≡◌ {A = Result A BoxFault} (Err fault) (Err (record { cause = cause; place = None }))) ⊥
+    → By table (λ cause. (◌≡◌ {A = Result Found BoxFault} (Err fault) (Err (record { cause = cause; place = None }))) × (bytes' ≡ empty)) D
+wiped A table fault D bytes' e b =
+    by_follows table (λ c (r : ◌≡◌ {A = Result A BoxFault} (Err fault) (Err (record { cause = c; place = None }))). (ap Err (same_error fault _ r), e)) (λ d. absurd d) b

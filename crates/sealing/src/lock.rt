@@ -1,4 +1,5 @@
-// What the sheet of a place is sealed under: a cipher, a key, and the place.
+// What the sheet of a place is sealed under: a cipher, a key, and the place. Its calls pass on what they borrow together, so it
+// has one lifetime in them.
 #[derive(Drop)]
 pub struct PlaceLock<'a, C> {
     pub cipher: &'a C,

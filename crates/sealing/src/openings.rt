@@ -1,4 +1,4 @@
-ghost use Rattle.std.specs.Prelude.{◌≡◌, ◌≤◌, take, None, Ok, Err, IfOk, MatchResult};
+ghost use Rattle.std.specs.Prelude.{◌≡◌, length, None, Err, MatchResult};
 ghost use Rattle.faults.specs.Tables.{By, Not};
 ghost use Rattle.sheets.specs.Records.{empty, number_in as number_of};
 ghost use Rattle.sheets.specs.Sheets.{length_in as length_of, WellFormed};
@@ -7,6 +7,7 @@ ghost use Rattle.sealing.specs.Sealing.{form_table, open_sheet_table, message_in
 use crate::found::Found;
 use crate::lock::PlaceLock;
 use crate::seals::associated;
+use arrayvec::ArrayVec;
 use faults::{BoxCause, BoxFault};
 use modes::Cascade;
 use saturnin::Cipher;
@@ -18,12 +19,13 @@ impl<'a, C: Cipher> PlaceLock<'a, C> {
         ensures { OpensSheet (C.Cipher.forward self.now.cipher.now) self.now.key.now self.now.place bytes.old result bytes.new }
     {
         let number = number_in(bytes);
-        // Room of a fixed size, with a length beside it: a box has no heap.
-        let mut room = [0; 928];
-        match self.opened(bytes, &mut room) {
-            Ok(length) => {
-                octets::paste(bytes, 64, &room[..length]);
-                Ok(Found { number, length })
+        match self.message_in(bytes) {
+            Ok(message) => {
+                octets::paste(bytes, 64, &message);
+                Ok(Found {
+                    number,
+                    length: message.len(),
+                })
             }
             Err(fault) => {
                 bytes.fill(0);
@@ -32,12 +34,11 @@ impl<'a, C: Cipher> PlaceLock<'a, C> {
         }
     }
 
-    // Opens the message of a record into room for one; it gives the length of the message.
-    fn opened(&'a self, bytes: &'a [u8; 1024], room: &mut [u8; 928]) -> Result<usize, BoxFault>
-        ensures few { IfOk result (λ n. n ≤ 928) }
-        ensures opens { By (open_sheet_table (C.Cipher.forward self.now.cipher.now) self.now.key.now self.now.place bytes.now)
+    // The message of a record.
+    fn message_in(&'a self, bytes: &'a [u8; 1024]) -> Result<ArrayVec<u8, 928>, BoxFault>
+        ensures { By (open_sheet_table (C.Cipher.forward self.now.cipher.now) self.now.key.now self.now.place bytes.now)
             (λ cause. result ≡ Err (record { cause = cause; place = None }))
-            ((result ≡ Ok (length_of bytes.now)) × (take (length_of bytes.now) room.new ≡ message_of (C.Cipher.forward self.now.cipher.now) self.now.key.now bytes.now)) }
+            (MatchResult result (λ m. (length m.items ≡ length_of bytes.now) × (m.items ≡ message_of (C.Cipher.forward self.now.cipher.now) self.now.key.now bytes.now)) (λ _. ⊥)) }
     {
         let key = self.key;
         let n = text_length(bytes)?;
@@ -48,8 +49,10 @@ impl<'a, C: Cipher> PlaceLock<'a, C> {
             nonce: &bytes[..16],
             associated: &data,
         };
-        under.open(&bytes[64..64 + n], &bytes[992..], &mut room[..n])?;
-        Ok(n)
+        let mut message = ArrayVec::from([0; 928]);
+        message.truncate(n);
+        under.open(&bytes[64..64 + n], &bytes[992..], &mut message)?;
+        Ok(message)
     }
 }
 

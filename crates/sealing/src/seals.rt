@@ -34,6 +34,7 @@ impl<'a, C: Cipher> PlaceLock<'a, C> {
             associated: &associated,
         };
         bytes.fill(0);
+        // Not refused: the lengths are those that sealing takes.
         let _ = under.seal(message, &mut bytes[64..64 + message.len()], &mut tag);
         paste(bytes, 0, nonce);
         paste(bytes, 16, &head);
