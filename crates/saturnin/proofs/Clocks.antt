@@ -26,3 +26,7 @@ pub clocked-add : (poly c n m : ℕ) → clocked poly (clocked poly c n) m ≡ c
 unfolding clocked
 clocked-add poly c n zero = rw add-zero
 clocked-add poly c n (suc m) = ap (clock poly) (clocked-add poly c n m) ∙ clocked_more poly c (n + m) ∙ ap (clocked poly c) (omega arith)
+
+-- sixteen more
+pub clocked_next : (poly start n c : ℕ) → c ≡ clocked poly start (16 * n) → clocked poly c 16 ≡ clocked poly start (16 * (n + 1))
+clocked_next poly start n c e = ap (λ v. clocked poly v 16) e ∙ clocked-add poly start (16 * n) 16 ∙ ap (clocked poly start) (omega arith)

@@ -4,7 +4,6 @@ ghost use Rattle.saturnin.specs.Rounds.{clock, clocked};
 ghost use Rattle.saturnin.specs.Schedules.{Scheduled};
 
 use crate::parameters::Parameters;
-use std::array;
 
 // The two constants of a super-round, RC0 and RC1.
 #[derive(Clone, Copy)]
@@ -31,9 +30,12 @@ impl Schedule {
         ensures { result.of ≡ of }
     {
         let start = 0xfe00 + 16 * of.r as u16 + of.d as u16;
-        let rc0 = clockings::<0x002d>(start);
-        let rc1 = clockings::<0x0053>(start);
-        let rounds = array::from_fn(|i| RoundConstants(rc0[i], rc1[i]));
+        let mut c = RoundConstants(start, start);
+        let mut rounds = [c; 31];
+        for pair in &mut rounds {
+            c = RoundConstants(clock_sixteen::<0x002d>(c.0), clock_sixteen::<0x0053>(c.1));
+            *pair = c;
+        }
         Schedule { of, rounds }
     }
 
@@ -49,22 +51,10 @@ impl Schedule {
 }
 
 // A polynomial is given by its taps, the terms below X^16.
-fn clockings<const TAPS: u16>(start: u16) -> [u16; 31]
-    ensures { result ≡ table 31 (λ i. clocked (65536 + TAPS) start (16 * (i + 1))) }
-{
-    let mut out = [0; 31];
-    let mut c = start;
-    for constant in &mut out {
-        c = clock_sixteen::<TAPS>(c);
-        *constant = c;
-    }
-    out
-}
-
 fn clock_sixteen<const TAPS: u16>(c: u16) -> u16
     ensures { result ≡ clocked (65536 + TAPS) c 16 }
 {
-    // The same step sixteen times, and no index: a fold would be no plainer.
+    // The same step sixteen times, and no index: a fold would say it with a closure and a contract of its own.
     let mut x = c;
     for _i in 0..16u32 {
         x = clock_once::<TAPS>(x);

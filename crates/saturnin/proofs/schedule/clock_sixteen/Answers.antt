@@ -10,6 +10,3 @@ loop-i-init g c = refl
 pub loop-i-preserved : goal.loop-i-preserved
 loop-i-preserved g c =
     c.clock_once-x.ensures ∙ ap (clock (65536 + g.row.TAPS)) c.loop-i.invariant ∙ clocked_more (65536 + g.row.TAPS) c.args.c c.loop-i._i
-
-pub returns : goal.returns
-returns g c = c.loop-i.invariant ∙ ap (clocked (65536 + g.row.TAPS) c.args.c) (omega arith)

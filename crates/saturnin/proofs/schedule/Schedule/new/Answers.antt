@@ -1,21 +1,32 @@
-use Rattle.std.proofs.Common.{rules, ◌≡◌, ℕ, ◌<◌, ap, ◌∙◌, get_or}
-use Rattle.saturnin.proofs.Made.{made_at}
-use Rattle.saturnin.proofs.Tables.{is_table_of, at_table}
-use Rattle.saturnin.proofs.Turns.{none}
+use Rattle.std.proofs.Common.{ℕ, ◌<◌, ◌≢◌, length, refl, ap, ◌∙◌, ap₂, arith, length-set, get_or-set_other, get_or-set_same, below_more}
+use Rattle.saturnin.specs.Rounds.{clocked}
+use Rattle.saturnin.proofs.Clocks.{clocked_next}
+use Rattle.saturnin.proofs.Tables.{is_table_of}
 use Rattle.saturnin.proofs.schedule.Schedule.new.Goals as goal
 
--- element i of the array
-made : (c : goal.After-from_fn-rounds) (i : ℕ) → i < 31
-    → get_or c.from_fn-rounds.result i none ≡ record { 0 = get_or c.clockings-rc0.result i 0; 1 = get_or c.clockings-rc1.result i 0 }
-made c i lt = made_at _ _ (λ i. record { 0 = get_or c.clockings-rc0.result i 0; 1 = get_or c.clockings-rc1.result i 0 }) 31 _
-    (λ i y q lt called. (search rules, search rules)) c.from_fn-rounds.ensures.items i none lt
+pub loop-pair-init : goal.loop-pair-init
+unfolding clocked
+loop-pair-init c = (refl, refl, refl, λ k h. absurd (omega arith))
+
+pub loop-pair-preserved : goal.loop-pair-preserved
+loop-pair-preserved c =
+    let l = c.loop-pair in
+    let i = l.pair-index in
+    let x = c.clock_sixteen.ensures ∙ clocked_next 0x1002d _ i _ l.invariant.0 in
+    let y = c.clock_sixteen-in-loop-pair.ensures ∙ clocked_next 0x10053 _ i _ l.invariant.1 in (
+      x,
+      y,
+      length-set l.pair-items i _ ∙ l.invariant.2,
+      below_more _ _
+          (λ k h. let ne : k ≢ i = omega arith in rw get_or-set_other (l.invariant.3 k h))
+          (let lt : i < length l.pair-items = omega (arith, l.invariant.2) in rw get_or-set_same (ap₂ (λ (a b : ℕ). record { 0 = a; 1 = b }) x y)),
+    )
 
 pub invariant_of-result : goal.invariant_of-result
 invariant_of-result c =
-    let long = c.from_fn-rounds.ensures.items.long in
-    record {
+    let l = c.loop-pair in record {
       scheduled = record {
-        first = is_table_of 31 _ (λ k. k.0) c.from_fn-rounds.result none long (λ i lt. ap (λ k. k.0) (made c i lt) ∙ ap (λ s. get_or s i 0) c.clockings-rc0.ensures ∙ at_table 31 _ i lt);
-        second = is_table_of 31 _ (λ k. k.1) c.from_fn-rounds.result none long (λ i lt. ap (λ k. k.1) (made c i lt) ∙ ap (λ s. get_or s i 0) c.clockings-rc1.ensures ∙ at_table 31 _ i lt);
+        first = is_table_of 31 _ (λ k. k.0) l.pair-items _ l.invariant.2 (λ i lt. ap (λ k. k.0) (l.invariant.3 i (omega arith)));
+        second = is_table_of 31 _ (λ k. k.1) l.pair-items _ l.invariant.2 (λ i lt. ap (λ k. k.1) (l.invariant.3 i (omega arith)));
       };
     }
