@@ -13,11 +13,15 @@ def functions(text):
     text = re.sub(r'//[^\n]*', '', text)
     for found in re.finditer(r'\bfn ([A-Za-z_0-9]+)', text):
         at = found.end()
-        depth = 0
+        depth = within = 0
         start = None
         while at < len(text):
             sign = text[at]
-            if sign == ';' and depth == 0:
+            if sign in '([':
+                within += 1
+            elif sign in ')]':
+                within -= 1
+            if sign == ';' and depth == 0 and within == 0:
                 break
             if sign == '{':
                 clause = re.search(r'(requires|ensures|ghost)( [a-z_0-9]+)?\s*$', text[found.end():at])

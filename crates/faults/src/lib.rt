@@ -60,7 +60,8 @@ pub struct ModeFault {
     pub cause: ModeCause,
 }
 
-// The faults that have a place are two types: as one, over its cause, each definition that names a fault would be longer.
+// The faults that have a place are two types: one type over its cause would save these four lines, and put the cause's type
+// into each definition and clause that names a fault.
 #[derive(Clone, Copy, PartialEq, Eq, Debug)]
 pub struct ShelfFault {
     pub cause: ShelfCause,

@@ -20,8 +20,8 @@ impl Text {
     }
 }
 
-// The lines `NAME = VALUE` of a record up to a blank line. What every record has is 0, or empty, until its line comes; the others
-// say what kind of record it is.
+// The lines `NAME = VALUE` of a record up to a blank line. A number, or the key, is 0 or empty until its line comes: where it
+// never comes, the call refuses that, or is of a kind that does not read it. The others say what kind of record it is.
 #[derive(Drop)]
 pub(crate) struct Record {
     pub(crate) count: u32,

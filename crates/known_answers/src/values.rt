@@ -4,7 +4,7 @@ use modes::Cascade;
 use saturnin::TwoWayCipher;
 use std::alloc::{AllocError, Global};
 
-// Why there is no value. As in `desk`, which this test does not stand on.
+// Why there is no value. `desk` has the like, with a case for shelves: for one enum this test would rest on four crates more.
 #[derive(Drop)]
 pub(crate) enum NoValue {
     Refused(ModeFault),

@@ -37,6 +37,7 @@ pub fn lock<C: Cipher>(
     Ok(())
 }
 
+// Whether key, nonce, message and file go together by their lengths.
 fn lockable(key: usize, nonce: usize, message: usize, file: usize) -> Result<(), ModeFault>
     ensures { Checks (lock_table key nonce message file) (λ _. (key ≡ 32) × (nonce ≡ 20) × (file ≡ 56 + message) × (message ≤ 65536)) result }
 {
@@ -58,12 +59,7 @@ pub fn unlock<C: Cipher>(
 ) -> Result<(), ModeFault>
     ensures { Unlocks (C.Cipher.forward cipher.now) key.now file.now out.old result out.new }
 {
-    if key.len() != 32 || file.len() < 56 || file.len() - 56 != out.len() {
-        return Err(ModeCause::Length.into());
-    }
-    if out.len() > 65536 {
-        return Err(ModeCause::Limit.into());
-    }
+    lockable(key.len(), 20, out.len(), file.len())?;
     if &file[..4] != MAGIC {
         out.fill(0);
         return Err(ModeCause::Tag.into());

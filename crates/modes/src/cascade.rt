@@ -55,7 +55,8 @@ impl<C: Cipher> Cascade<'_, C> {
         Ok(())
     }
 
-    // Whether all lengths are right, also those of the text, the output buffer and the tag.
+    // Whether all lengths are right, also those of the text, the output buffer and the tag. The limits stand here, as in each
+    // check, since a table of refusals names them: a type of short texts would ask of callers what is refused here.
     fn taken(&self, text: usize, out: usize, tag: usize) -> Result<Keyed<'_, C>, ModeFault>
         ensures { Checks (seal_table (length self.now.key.now) (length self.now.nonce.now) (length self.now.associated.now) text out tag)
             (λ k. (k.cipher.now ≡ self.now.cipher.now) × (k.key.now ≡ self.now.key.now) × (k.nonce.bytes.now ≡ self.now.nonce.now) × (length self.now.nonce.now ≤ 20)

@@ -9,8 +9,9 @@ use saturnin::{Parameters, TwoWayCipher};
 
 const SHORT: Parameters = Parameters { d: 6, r: 10 };
 
-// Key and nonce are handed in as slices of their own. As fields of a struct, which was tried, they were not known to be bytes,
-// and that `open_short` is exact rests on it; a ghost field that says so would ask it of callers.
+// Key and nonce are handed in as slices of their own. As fields of a struct, which was tried, they were not known to be bytes.
+// That `open_short` is exact rests on it, since it turns the block back, which CTR-Cascade never does; a ghost field that says
+// so would ask it of callers.
 
 // Seals a message of at most 15 bytes under a nonce of 16 into a block of 32.
 pub fn seal_short<C: TwoWayCipher>(

@@ -3,7 +3,7 @@
 ghost use Rattle.std.specs.Prelude.{◌≡◌, ◌+◌, ◌<◌, ◌≤◌, ◌++◌, length, MatchBool, ◌≢◌};
 ghost use Rattle.octets.specs.Octets.{written, zeros};
 
-// Whether every byte is zero.
+// Whether every byte is zero: one chain, under a name that has its contract for the crates that ask it.
 pub fn is_zero(s: &[u8]) -> bool
     ensures { MatchBool result (s.now ≡ zeros (length s.now)) (s.now ≢ zeros (length s.now)) }
 {

@@ -10,7 +10,7 @@ pub(crate) fn cells_in(size: usize) -> usize
 }
 
 // The mark of a cell, as it stands in the memory: the place of its record plus 1, or 0 where the cell is unused. These functions
-// take the memory as it is lent: a struct over it would be lent anew for each of them.
+// take the memory itself: a struct of this one slice would put a name more into each clause, and no fact.
 fn mark(memory: &[u8], j: usize) -> u32
     requires { j < cells memory.now }
     ensures { result ≡ mark_of memory.now j }

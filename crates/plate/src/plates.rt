@@ -9,7 +9,8 @@ use faults::{ShelfCause, ShelfFault};
 use shelf::Shelf;
 
 // Cells in lent memory, at most 8,192, each written once; 1 to 4,096 places, or none where the memory is unfit. As an Option
-// the count would be no plainer: an unfit plate is a shelf of 0 places.
+// the count would be no plainer: an unfit plate is a shelf of 0 places. The memory is one slice: the bytes after the cells are
+// the lender's. The used cells are counted in the making, so that a put need not count them again.
 #[derive(Drop)]
 pub struct Plate<'a> {
     memory: &'a mut [u8],

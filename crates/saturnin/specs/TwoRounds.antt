@@ -1,5 +1,5 @@
--- Two rounds at once, as both forms of the cipher work them: what the contracts of their inner functions say. That these are
--- the rounds of the cipher is proved, and nothing else rests on them.
+-- Two rounds at once, as the cipher is worked over any form: what the contracts of inner functions say. That these are the
+-- rounds of the cipher is proved, and nothing else rests on them.
 use Rattle.std.specs.Prelude.{ℕ}
 use Rattle.saturnin.specs.Cube.{Cube}
 use Rattle.saturnin.specs.Layers.{S, MC, add}

@@ -9,7 +9,8 @@ use crate::schedule::{Constants, RoundConstants};
 use crate::shifts::{Sheets, Shift, Slices};
 
 // Forward and back are the same walk by other steps, whose contracts name other definitions: one function over both would be no
-// plainer.
+// plainer. Constants, key and block are what one call is handed: a struct of them would be made for that call and taken apart
+// again in it.
 
 // The block that the cipher gives, worked in a form.
 #[tactic(auto, unfolding(crate::specs::Rounds::forward))]

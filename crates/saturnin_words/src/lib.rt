@@ -16,7 +16,8 @@ use saturnin::{Cipher, Parameters, TwoWayCipher, decrypted, encrypted};
 use state::State;
 use tables::with_constants;
 
-// Saturnin in eight 32-bit words, with the S-boxes by AND, OR and XOR.
+// Saturnin in eight 32-bit words, with the S-boxes by AND, OR and XOR. There and back differ in the function that they call and
+// in the definition that its contract names; one function that takes both would be longer.
 #[derive(Clone, Copy)]
 pub struct WordForm;
 

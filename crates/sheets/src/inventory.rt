@@ -20,6 +20,7 @@ pub fn inventory_of<S: Shelf>(heap: Global, shelf: &S) -> Result<Vec<Entry>, All
     ensures { IfOk result (λ v. Inventory (S.Shelf.meaning shelf.now) (S.Shelf.meaning shelf.now).count v.items) }
 {
     let mut entries = Vec::new(heap);
+    // The place's number goes into its entry, and `?` leaves the loop: a chain would be no plainer.
     for place in 0..shelf.count() {
         let mut bytes = [0; 1024];
         // Not refused: the place is one of the shelf's, and the buffer as long as a record.
