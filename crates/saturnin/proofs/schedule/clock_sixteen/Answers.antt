@@ -1,4 +1,4 @@
-use Rattle.std.proofs.Common.{◌+◌, refl, ap, ◌∙◌, arith}
+use Rattle.std.proofs.Common.{◌+◌, refl, ap, ◌∙◌}
 use Rattle.saturnin.specs.Rounds.{clock, clocked}
 use Rattle.saturnin.proofs.Clocks.{clocked_more}
 use Rattle.saturnin.proofs.schedule.clock_sixteen.Goals as goal

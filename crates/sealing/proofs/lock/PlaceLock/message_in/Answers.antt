@@ -3,12 +3,8 @@ use Rattle.std.proofs.lemmas.List.{length-take, length-replicate, take_at}
 use Rattle.faults.proofs.Results.{handed_on}
 use Rattle.octets.specs.Octets.{part}
 use Rattle.sheets.specs.Sheets.{associated}
-use Rattle.sealing.proofs.Reading.{form_refused, open_refused, open_done}
+use Rattle.sealing.proofs.Reading.{open_refused, open_done}
 use Rattle.sealing.proofs.lock.PlaceLock.message_in.Goals as goal
-
-pub returns-in_err-n : goal.returns-in_err-n
-returns-in_err-n g c =
-    form_refused (g.C.Cipher.forward c.args.self.now.cipher.now) c.args.self.now.key.now c.args.self.now.place c.args.bytes.now _ _ _ (handed_on _ c.from_residual.result c.from_residual.ensures.1) c.in_err-n.ensures
 
 pub returns-in_err-open : goal.returns-in_err-open
 returns-in_err-open g c =
