@@ -1,12 +1,12 @@
 -- What the lengths of what a sealing or an opening is handed decide, and its tag, or its padding.
 use Rattle.std.proofs.Common.{◌≡◌, ℕ, ◌≤◌, List, ◌++◌, length, Ok, Err, Result, sym, refl, ap, ◌∙◌}
-use Rattle.faults.specs.Tables.{By, Not}
-use Rattle.faults.specs.declared.ModeCause.TheVariants.{Tag, Slip}
+use Rattle.faults.specs.Tables.{By}
+use Rattle.faults.specs.declared.ModeCause.TheVariants.{Slip}
 use Rattle.faults.specs.declared.ModeFault.{ModeFault}
 use Rattle.octets.specs.Octets.{zeros}
 use Rattle.saturnin.specs.Meaning.{BlockFunction}
 use Rattle.modes.specs.Bytes.{padded}
-use Rattle.modes.specs.Cascade.{seal_table, Seals, Opens, ctr, tag}
+use Rattle.modes.specs.Cascade.{seal_table, Opens, ctr, tag}
 use Rattle.modes.specs.Short.{ShortOpens, filled}
 
 module _ (f : BlockFunction) (key nonce associated text out sign : List ℕ) where
@@ -17,14 +17,6 @@ module _ (f : BlockFunction) (key nonce associated text out sign : List ℕ) whe
 
   -- all lengths are right
   module _ (whole : (length key ≡ 32) × (length out ≡ length text) × (length sign ≡ 32)) (few : (length nonce ≤ 20) × (length associated ≤ 65536) × (length text ≤ 65536)) where
-    pub seal_done : (out' sign' : List ℕ) → out' ≡ ctr f key nonce text → sign' ≡ tag f key nonce associated out' → Seals f key nonce associated text out sign (Ok tt) out' sign'
-    seal_done out' sign' a b = (λ h. absurd (h whole), λ n. (λ h. absurd (h few), λ m. (refl, a, b ∙ ap (tag f key nonce associated) a)))
-
-    pub other_tag : (fault : ModeFault) (out' : List ℕ) → fault ≡ record { cause = Tag } → Not (sign ≡ tag f key nonce associated text) → out' ≡ zeros (length out)
-        → Opens f key nonce associated text sign out (Err fault) out'
-    other_tag fault out' e other z =
-        (λ h. absurd (h whole), λ n. (λ h. absurd (h few), λ m. (λ h. (ap Err e, z), λ k. absurd (k other))))
-
     pub right_tag : (out' : List ℕ) → sign ≡ tag f key nonce associated text → out' ≡ ctr f key nonce text → Opens f key nonce associated text sign out (Ok tt) out'
     right_tag out' right a =
         (λ h. absurd (h whole), λ n. (λ h. absurd (h few), λ m. (λ h. absurd (h right), λ k. (refl, a))))

@@ -1,7 +1,7 @@
 -- What a write into a memory leaves.
 use Rattle.std.proofs.Common.{◌≡◌, ℕ, ◌+◌, ◌-◌, ◌<◌, ◌≤◌, ◌⊎◌, List, ◌++◌, length, get_or, take, drop, sym, refl, ap, ◌∙◌, ap₂, inl, inr, append_assoc, arith}
 use borrow.Rule.Slice.PartMut.{put_mid, post_of, Post-is}
-use Rattle.std.proofs.lemmas.List.{length-append, length-take, length-drop, drop-take, drop_at, take_at, drop_all, append-nil, get_or-take, get_or-drop}
+use Rattle.std.proofs.lemmas.List.{length-append, length-take, length-drop, drop-take, drop_at, get_or-take, get_or-drop}
 use Rattle.std.proofs.lemmas.Slice.{drop-put_mid, take-put_mid_below, between-put_mid}
 use Rattle.octets.specs.Octets.{part, written}
 
@@ -77,12 +77,3 @@ written-before at first second memory h =
     drop_at (take (at + length first) memory) (second ++ drop (at + length first + length second) memory) (at + length first) front
     ∙ ap (λ n. second ++ drop n memory) (simp length-append (omega arith)) in
     ap₂ (λ a b. a ++ (first ++ b)) t d ∙ ap (λ r. take at memory ++ r) (sym (append_assoc first second (drop (at + length (first ++ second)) memory)))
-
--- two parts that fill a memory
-pub two_parts : (a b memory : List ℕ) → length memory ≡ length a + length b → written (length a) b (written 0 a memory) ≡ a ++ b
-two_parts a b memory l =
-    let w : written 0 a memory ≡ a ++ drop (length a) memory = ap (λ n. a ++ drop n memory) (omega arith) in
-    ap (written (length a) b) w
-    ∙ ap₂ (λ s t. s ++ (b ++ t)) (take_at a (drop (length a) memory) (length a) refl)
-    (drop_all (length a + length b) (a ++ drop (length a) memory) (simp (length-append, length-drop) (omega arith)))
-    ∙ ap (λ t. a ++ t) (append-nil b)

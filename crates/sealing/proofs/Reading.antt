@@ -1,5 +1,5 @@
 -- A record that is opened, by what the opening of its parts answered.
-use Rattle.std.proofs.Common.{◌≡◌, ℕ, ◌+◌, ◌-◌, List, [], ◌∷◌, ◌++◌, length, take, drop, None, Ok, Err, Result, sym, ap, ◌∙◌, ap₂, arith}
+use Rattle.std.proofs.Common.{◌≡◌, ℕ, ◌+◌, ◌-◌, List, ◌++◌, length, take, drop, None, Ok, Err, Result, sym, ap, ◌∙◌, ap₂, arith}
 use mathlib.Core.Path.{transport}
 use Rattle.std.proofs.lemmas.List.{length-take, length-drop, length-append, take_all}
 use Rattle.faults.specs.Causes.{from_mode}
@@ -7,7 +7,6 @@ use Rattle.faults.specs.Tables.{Table, By, Not}
 use Rattle.faults.specs.declared.ModeCause.TheVariants.{Tag}
 use Rattle.faults.specs.declared.ModeFault.{ModeFault}
 use Rattle.faults.specs.declared.BoxCause.{BoxCause}
-use Rattle.faults.specs.declared.BoxCause.TheVariants.{Mode}
 use Rattle.faults.specs.declared.BoxFault.{BoxFault}
 use Rattle.faults.proofs.Results.{never_both, same_error}
 use Rattle.faults.proofs.Tables.{by_follows}
@@ -19,19 +18,7 @@ use Rattle.modes.specs.Cascade.{ctr, left, Opens}
 use Rattle.modes.proofs.Streams.{length-ctr}
 use Rattle.sheets.specs.Records.{empty}
 use Rattle.sheets.specs.Sheets.{associated, nonce_in, head_in, length_in, text_in, tag_in, WellFormed}
-use Rattle.sealing.specs.Sealing.{right_tag, form_table, open_sheet_table, message_in}
-
--- a refusal by the first rows of a table is one by the whole table
-by_front : {Cause : Type 0} {P Q : Cause → Type 0} (D : Type 0) (rows more : Table Cause) → ((c : Cause) → P c → Q c) → By rows P ⊥ → By (rows ++ more) Q D
-by_front D [] more f b = absurd b
-by_front D (row ∷ rows) more f b = (λ r. f row.1 (b.0 r), λ n. by_front D rows more f (b.1 n))
-
-pub form_refused : {A : Type 0} (f : BlockFunction) (key : List ℕ) (place : ℕ) (bytes : List ℕ) (fault : BoxFault) (result : Result A BoxFault) (D : Type 0) → result ≡ Err fault
-    → By (form_table bytes) (λ cause. fault ≡ record { cause = cause; place = None }) ⊥
-    → By (open_sheet_table f key place bytes) (λ cause. result ≡ Err (record { cause = cause; place = None })) D
-form_refused f key place bytes fault result D r b =
-    by_front {P = λ cause. fault ≡ record { cause = cause; place = None }} {Q = λ cause. result ≡ Err (record { cause = cause; place = None })} D
-    (form_table bytes) ((Not (tag_in bytes ≡ right_tag f key place bytes), Mode Tag) ∷ []) (λ cause e. r ∙ ap Err e) b
+use Rattle.sealing.specs.Sealing.{right_tag, open_sheet_table, message_in}
 
 module _ (f : BlockFunction) (key : List ℕ) (place : ℕ) (bytes : List ℕ) (n : ℕ) (kl : length key ≡ 32) (long : length bytes ≡ 1024) (is : n ≡ length_in bytes)
     (there : Not (bytes ≡ empty)) (formed : WellFormed bytes) (data' out out' : List ℕ) (answer : Result (Unit {0}) ModeFault)
