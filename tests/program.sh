@@ -27,7 +27,9 @@ run() {
 
 usage='usage: majgunter hash FILE...                            print the Saturnin-Hash of each file
        majgunter lock [--nonce HEX] KEYFILE IN OUT      lock a file with a key of 32 bytes
-       majgunter unlock KEYFILE IN OUT                  unlock it again'
+       majgunter unlock KEYFILE IN OUT                  unlock it again
+       majgunter shelf tray FILE                        print what a tray holds
+       majgunter shelf plate FILE PLACES                print what a plate of so many places holds'
 digest=83b15641b09569b04c606108fc8ae268ac0dc9288741b5735d8612d69c0afdfe
 
 run
@@ -102,6 +104,45 @@ refused 'a file over the limit' "majgunter: over: $limit; a file to lock has at 
 refused 'no such file' "majgunter: missing: No such file or directory (os error 2)" lock key missing never
 refused 'no key file' "majgunter: window: the key file: No such file or directory (os error 2)" lock missing window never
 refused 'no folder to write in' "majgunter: window: the file to write: No such file or directory (os error 2)" lock key window missing/never
+
+# cell MARK NUMBER: a cell of a plate, whose record is its number and a byte more
+cell() {
+    printf "\\000\\$(printf %03o $1)"
+    head -c 15 /dev/zero
+    printf "\\$(printf %03o $2)x"
+    head -c 1007 /dev/zero
+}
+{ cell 1 1; cell 2 2; cell 1 3; cell 0 0; } > settled
+{ cell 1 1; cell 0 0; cell 2 2; } > gap
+unfit='refused with 13, layer 2: the plate is unfit; a plate has 1 to 4,096 places, no mark above their count, and no used cell after an unused one'
+refused 'a shelf of no kind' "$usage" shelf drawer full
+refused 'a plate without a count' "$usage" shelf plate full
+refused 'a count that is no number' 'majgunter: full: the count of places is not a number' shelf plate full -1
+refused 'a count over the range' "majgunter: full: $unfit" shelf plate full 4097
+refused 'no places' "majgunter: full: $unfit" shelf plate full 0
+refused 'marks above the count' "majgunter: window: $unfit" shelf plate window 4096
+refused 'a used cell after an unused one' "majgunter: gap: $unfit" shelf plate gap 3
+refused 'a tray over its size' 'majgunter: /dev/zero: over 4194304 bytes, the most that such a shelf has' shelf tray /dev/zero
+refused 'a plate over its size' 'majgunter: /dev/zero: over 8404992 bytes, the most that such a shelf has' shelf plate /dev/zero 1
+refused 'no such shelf' 'majgunter: missing: No such file or directory (os error 2)' shelf tray missing
+head -c 4194304 /dev/zero > tray
+run shelf tray tray
+expect 'a tray of 4,096 places' 0 '4096 places, 4096 open, 0 with a record' ''
+head -c 8404992 /dev/zero > plate
+run shelf plate plate 4096
+expect 'a plate of 4,096 places' 0 '4096 places, 4096 open, 0 with a record' ''
+run shelf plate settled 2
+expect 'the settled plate' 0 '2 places, 2 open, 2 with a record
+place 0: number 3
+place 1: number 2' ''
+head -c 4000 settled > cut
+run shelf plate cut 2
+expect 'a plate cut short' 0 '2 places, 0 open, 2 with a record
+place 0: number 3
+place 1: number 2
+922 spare bytes at the end' ''
+run shelf tray empty
+expect 'a tray of no places' 0 '0 places, 0 open, 0 with a record' ''
 
 rm -r "$folder"
 exit $failed

@@ -14,14 +14,6 @@ Spells words (Unlock files) = words ≡ codes "unlock" ∷ files.key.now ∷ fil
 Spells words (Tray file) = words ≡ codes "shelf" ∷ codes "tray" ∷ file.now ∷ []
 Spells words (Plate file places) = words ≡ codes "shelf" ∷ codes "plate" ∷ file.now ∷ places.now ∷ []
 
-abbrev pub IsOfAShelf : Command → Type 0
-IsOfAShelf Help = ⊥
-IsOfAShelf (Hash files) = ⊥
-IsOfAShelf (Lock _ files) = ⊥
-IsOfAShelf (Unlock files) = ⊥
-IsOfAShelf (Tray file) = Unit {0}
-IsOfAShelf (Plate file places) = Unit {0}
-
 -- what words are read as: a command that they spell, or none where they are no command
 abbrev pub Reads : (words : List (List ℕ)) → Option Command → Type 0
 Reads words (Some command) = Spells words command

@@ -1,33 +1,30 @@
 ghost use Rattle.std.specs.Prelude.{◌↔◌, ◌∷◌, codes, map, IfOk, IsOk, IsTrue, string_bytes};
-ghost use Rattle.cli.specs.Spelling.{Reads, IsOfAShelf};
+ghost use Rattle.cli.specs.Spelling.{Reads};
 
 use crate::problems::Problem;
 use desk::Unmade;
 use faults::ModeCause;
 use std::{fmt, io};
 
-// How the commands on files are called.
-pub const FILES_USAGE: &str =
+// How the commands are called.
+pub(crate) const USAGE: &str =
     "usage: majgunter hash FILE...                            print the Saturnin-Hash of each file
        majgunter lock [--nonce HEX] KEYFILE IN OUT      lock a file with a key of 32 bytes
-       majgunter unlock KEYFILE IN OUT                  unlock it again";
-
-// How those on shelves are called.
-pub(crate) const SHELVES_USAGE: &str =
-    "       majgunter shelf tray FILE                        print what a tray holds
+       majgunter unlock KEYFILE IN OUT                  unlock it again
+       majgunter shelf tray FILE                        print what a tray holds
        majgunter shelf plate FILE PLACES                print what a plate of so many places holds";
 
 // The names of the files that a locking or an unlocking is about.
 #[derive(Clone, Copy)]
-pub struct Files<'a> {
-    pub key: &'a str,
-    pub from: &'a str,
-    pub to: &'a str,
+pub(crate) struct Files<'a> {
+    pub(crate) key: &'a str,
+    pub(crate) from: &'a str,
+    pub(crate) to: &'a str,
 }
 
 // A command of the program, with what its words name.
 #[derive(Clone, Copy)]
-pub enum Command<'a> {
+pub(crate) enum Command<'a> {
     Help,
     Hash(&'a [String]),
     Lock {
@@ -46,7 +43,7 @@ pub enum Command<'a> {
 
 impl<'a> Command<'a> {
     // The command that the words are, if they are one.
-    pub fn of(words: &'a [String]) -> Option<Command<'a>>
+    pub(crate) fn of(words: &'a [String]) -> Option<Command<'a>>
         ensures { Reads (map string_bytes words.now) result }
     {
         let [first, rest @ ..] = words else {
@@ -98,13 +95,6 @@ impl<'a> Command<'a> {
             }),
             _ => None,
         }
-    }
-
-    // Whether it tells of a shelf.
-    pub fn is_of_a_shelf(&self) -> bool
-        ensures { IsTrue result ↔ IsOfAShelf self.now }
-    {
-        matches!(self, Command::Tray { .. } | Command::Plate { .. })
     }
 
     // Whether the command was done: what it gives, or, on standard error, why it is not done.

@@ -1,7 +1,6 @@
 #![tactic(auto)]
 
-ghost use Rattle.std.specs.Prelude.{◌≡◌, map, IfOk, IsNone, IsTrue, string_bytes};
-ghost use Rattle.faults.specs.Tables.{Not};
+ghost use Rattle.std.specs.Prelude.{map, IfOk, IsTrue, string_bytes};
 ghost use Rattle.cli.specs.Commands.{IsHelp, IsCommand};
 
 mod commands;
@@ -12,40 +11,26 @@ mod shelves;
 #[cfg(test)]
 mod tests;
 
-use commands::SHELVES_USAGE;
-pub use commands::{Command, FILES_USAGE};
+use commands::{Command, USAGE};
 use desk::digest_line;
 use files::read_limited;
 use locks::{lock_file, unlock_file};
 use problems::Problem;
 use shelves::{plate_told, tray_told};
-use std::{fmt, io};
+use std::io;
 
 // One command of the program, in words. Whether all was done.
 pub fn run(rt: &HostRuntime, words: &[String]) -> io::Result<bool>
     ensures help { IsHelp (map string_bytes words.now) → IfOk result IsTrue }
     ensures commands { IfOk result (λ done. IsTrue done → IsCommand (map string_bytes words.now)) }
 {
-    let usage = format_args!("{FILES_USAGE}\n{SHELVES_USAGE}");
-    perform(rt, Command::of(words), &usage)
-}
-
-// A command, or where there is none its usage on standard error. Whether all was done.
-pub fn perform(
-    rt: &HostRuntime,
-    command: Option<Command>,
-    usage: &impl fmt::Display,
-) -> io::Result<bool>
-    ensures help { command.entry ≡ Some Command.Help → IfOk result IsTrue }
-    ensures none { IsNone command.entry → IfOk result (λ done. Not (IsTrue done)) }
-{
-    let Some(command) = command else {
-        eprintln!(rt; "{usage}")?;
+    let Some(command) = Command::of(words) else {
+        eprintln!(rt; "{USAGE}")?;
         return Ok(false);
     };
     match command {
         Command::Help => {
-            println!(rt; "{usage}")?;
+            println!(rt; "{USAGE}")?;
             Ok(true)
         }
         Command::Hash(files) => hash_files(rt, command, files),
