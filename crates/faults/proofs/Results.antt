@@ -7,6 +7,9 @@ module _ {A E : Type 0} where
   pub never_both : (x : A) (e : E) → ◌≡◌ {A = Result A E} (Ok x) (Err e) → ⊥
   never_both x e h = let z : ◌≡◌ {A = ℕ} 0 1 = cc in omega arith
 
+  pub same_value : (x y : A) → ◌≡◌ {A = Result A E} (Ok x) (Ok y) → x ≡ y
+  same_value x y h = cc
+
   pub same_error : (e f : E) → ◌≡◌ {A = Result A E} (Err e) (Err f) → e ≡ f
   same_error e f h = cc
 

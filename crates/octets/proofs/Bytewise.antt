@@ -21,3 +21,15 @@ four_bytes n =
     let b : n / 65536 ≡ n / 256 / 256 = omega arith in
     let a : n / 16777216 ≡ n / 256 / 256 / 256 = omega arith in
     ap₂ (λ x y. (x % 256) ∷ (y % 256) ∷ (n / 256 % 256) ∷ (n % 256) ∷ []) a b
+
+-- and eight
+pub eight_bytes : (n : ℕ) → (n / 72057594037927936 % 256) ∷ (n / 281474976710656 % 256) ∷ (n / 1099511627776 % 256) ∷ (n / 4294967296 % 256) ∷ (n / 16777216 % 256) ∷ (n / 65536 % 256) ∷ (n / 256 % 256) ∷ (n % 256) ∷ [] ≡ big_endian 8 n
+unfolding big_endian
+eight_bytes n =
+    let b : n / 65536 ≡ n / 256 / 256 = omega arith in
+    let c : n / 16777216 ≡ n / 256 / 256 / 256 = omega arith in
+    let d : n / 4294967296 ≡ n / 256 / 256 / 256 / 256 = omega (arith, c) in
+    let e : n / 1099511627776 ≡ n / 256 / 256 / 256 / 256 / 256 = omega (arith, d) in
+    let f : n / 281474976710656 ≡ n / 256 / 256 / 256 / 256 / 256 / 256 = omega (arith, e) in
+    let g : n / 72057594037927936 ≡ n / 256 / 256 / 256 / 256 / 256 / 256 / 256 = omega (arith, f) in
+    rw (b, c, d, e, f, g) refl

@@ -51,6 +51,14 @@ impl<'a> Plate<'a> {
         }
     }
 
+    // The lent memory.
+    pub fn memory(&self) -> &[u8]
+        ensures { result.now ≡ self.now.memory.now }
+    {
+        // The spare bytes too.
+        self.memory
+    }
+
     // The cell that has the record of a place; none where the place was never put.
     pub fn last_cell(&self, place: u32) -> Option<usize>
         ensures inside { place < self.now.places → LastCell self.now.memory.now place (cells self.now.memory.now) result }

@@ -21,6 +21,14 @@ impl<'a> Tray<'a> {
     {
         Tray { memory }
     }
+
+    // The lent memory.
+    pub fn memory(&self) -> &[u8]
+        ensures { result.now ≡ self.now.memory.now }
+    {
+        // The spare bytes too.
+        self.memory
+    }
 }
 
 impl Shelf for Tray<'_> {
