@@ -1,0 +1,6 @@
+pub mod Unslipping
+pub mod Placing
+pub mod Reading
+pub mod Numbering
+pub mod Sealings
+pub mod Viewings

@@ -1,0 +1,3 @@
+pub mod Boxes
+pub mod Numbers
+pub mod Viewings

@@ -1,0 +1,91 @@
+ghost use Rattle.std.specs.Prelude.{◌≡◌, ℕ, List, Some, IfErr, MatchResult};
+ghost use Rattle.faults.specs.Causes.{placed};
+ghost use Rattle.faults.specs.Tables.{By, Clear};
+ghost use Rattle.logs.specs.Calls.{seal_table, Seals};
+ghost use Rattle.archive_box.specs.Boxes.{fixed, made, state};
+ghost use Rattle.archive_box.specs.Numbers.{faulted, with_place};
+
+use crate::boxes::ArchiveBox;
+use crate::number::{Number, Refusal};
+use faults::{BoxCause, BoxFault};
+use saturnin::TwoWayCipher;
+use sealing::PlaceLock;
+use shelf::Shelf;
+
+impl<C: TwoWayCipher, S: Shelf> ArchiveBox<C, S> {
+    // Seals a sheet under the number, puts it at the place, leaves its record in the buffer, and spends the number.
+    pub fn seal(
+        &mut self,
+        number: Number,
+        place: u32,
+        label: &[u8],
+        message: &[u8],
+        bytes: &mut [u8],
+    ) -> Result<(), Refusal>
+        ensures back { IfErr result (λ r. r.number ≡ number) }
+        ensures fixed { fixed self.new ≡ fixed self.old }
+        ensures shelf { MatchResult result (λ _. S.Shelf.stores self.old.shelf place bytes.new self.new.shelf) (λ _. self.new ≡ self.old) }
+        ensures seals { Seals (made C.Cipher.forward C.TwoWayCipher.back self.old) (state S.Shelf.meaning self.old) number.value place label.now message.now bytes.old (faulted result) bytes.new (state S.Shelf.meaning self.new) }
+    {
+        match self.sealed(number.value, place, label, message, bytes) {
+            Ok(()) => {
+                let Number { value: _ } = number;
+                Ok(())
+            }
+            Err(fault) => Err(Refusal {
+                fault: fault.at(place),
+                number,
+            }),
+        }
+    }
+
+    // The same, with the number as a plain one, and without the place in a fault of the box's own.
+    fn sealed(
+        &mut self,
+        number: u64,
+        place: u32,
+        label: &[u8],
+        message: &[u8],
+        bytes: &mut [u8],
+    ) -> Result<(), BoxFault>
+        ensures fixed { fixed self.new ≡ fixed self.old }
+        ensures shelf { MatchResult result (λ _. S.Shelf.stores self.old.shelf place bytes.new self.new.shelf) (λ _. self.new ≡ self.old) }
+        ensures seals { Seals (made C.Cipher.forward C.TwoWayCipher.back self.old) (state S.Shelf.meaning self.old) number place label.now message.now bytes.old (with_place place result) bytes.new (state S.Shelf.meaning self.new) }
+    {
+        self.sealable(number, place, label, message, bytes)?;
+        let label = label.as_array().unwrap();
+        let record = bytes.as_mut_array().unwrap();
+        let nonce = self.nonce(number);
+        let lock = PlaceLock {
+            cipher: &self.cipher,
+            key: &self.key,
+            place,
+        };
+        lock.seal(&nonce, label, message, record)?;
+        self.shelf.put(place, record)?;
+        self.out.take_out(number);
+        Ok(())
+    }
+
+    // Whether the sealing would be done.
+    fn sealable(
+        &self,
+        number: u64,
+        place: u32,
+        label: &[u8],
+        message: &[u8],
+        bytes: &[u8],
+    ) -> Result<(), BoxFault>
+        ensures { let rows = seal_table (made C.Cipher.forward C.TwoWayCipher.back self.now) (state S.Shelf.meaning self.now) number place label.now message.now bytes.now in
+            MatchResult result (λ _. Clear rows) (λ fault. By rows (λ cause. placed place fault ≡ record { cause = cause; place = Some place }) ⊥) }
+    {
+        if label.len() != 46 || bytes.len() != 1024 {
+            return Err(BoxCause::Length.into());
+        }
+        if message.len() > 928 {
+            return Err(BoxCause::Limit.into());
+        }
+        self.shelf.allows_put(place, 1024)?;
+        self.is_out(number)
+    }
+}

@@ -1,0 +1,56 @@
+ghost use Rattle.std.specs.Prelude.{◌≡◌, ◌≢◌, length};
+ghost use Rattle.octets.specs.Octets.{zeros};
+ghost use Rattle.archive_box.specs.Viewings.{Shows};
+
+use sheets::number_in;
+
+// A viewing is the time in which a read sheet is looked at: it borrows the record buffer that the read has filled, and however
+// it ends, the buffer is then zero.
+pub struct Viewing<'a> {
+    record: &'a mut [u8],
+}
+
+// A sheet as a viewing shows it.
+#[derive(Clone, Copy)]
+pub struct Sheet<'a> {
+    pub number: u64,
+    pub label: &'a [u8; 46],
+    pub message: &'a [u8],
+}
+
+impl<'a> Viewing<'a> {
+    // A buffer that is no record buffer, by its length, becomes zero at once.
+    pub fn new(buffer: &'a mut [u8]) -> Viewing<'a>
+        ensures lent { result.record.ghost_name ≡ buffer.entry.ghost_name }
+        ensures fitting { length buffer.old ≡ 1024 → result.record.now ≡ buffer.old }
+        ensures other { length buffer.old ≢ 1024 → result.record.now ≡ zeros (length buffer.old) }
+    {
+        if buffer.len() != 1024 {
+            buffer.fill(0);
+        }
+        Viewing { record: buffer }
+    }
+
+    // The sheet in the buffer; none where there is no record buffer, or no room for the message that the record tells of.
+    pub fn sheet(&self) -> Option<Sheet<'_>>
+        ensures { Shows self.now.record.now result }
+    {
+        let record: &[u8; 1024] = self.record.as_array()?;
+        let length = u16::from_be_bytes([record[62], record[63]]) as usize;
+        let message = record[64..992].get(..length)?;
+        Some(Sheet {
+            number: number_in(record),
+            label: record[16..62].as_array().unwrap(),
+            message,
+        })
+    }
+}
+
+impl Drop for Viewing<'_> {
+    fn drop(self)
+        ensures { self.exit.0.now ≡ zeros (length self.entry.record.now) }
+    {
+        let Viewing { record } = self;
+        record.fill(0);
+    }
+}
