@@ -29,7 +29,8 @@ usage='usage: majgunter hash FILE...                            print the Saturn
        majgunter lock [--nonce HEX] KEYFILE IN OUT      lock a file with a key of 32 bytes
        majgunter unlock KEYFILE IN OUT                  unlock it again
        majgunter shelf tray FILE                        print what a tray holds
-       majgunter shelf plate FILE PLACES                print what a plate of so many places holds'
+       majgunter shelf plate FILE PLACES                print what a plate of so many places holds
+       majgunter box                                    work a box by a script on standard input'
 digest=83b15641b09569b04c606108fc8ae268ac0dc9288741b5735d8612d69c0afdfe
 
 run
@@ -143,6 +144,29 @@ place 1: number 2
 922 spare bytes at the end' ''
 run shelf tray empty
 expect 'a tray of no places' 0 '0 places, 0 open, 0 with a record' ''
+
+refused 'a box with words' "$usage" box key
+script() {
+    "$program" box > out 2> err
+    status=$?
+}
+script < empty
+expect 'an empty script' 0 '' ''
+printf 'draw\n' | { script; echo $status > said; }
+status=$(cat said)
+expect 'a call before there is a box' 1 'line 1: draw: no box yet' ''
+printf 'key key\ntray tray\nmake 0102030405060708 5\ndraw\nseal 5 7 rose a window\nread 7\nsave tray.again\n' | { script; echo $status > said; }
+status=$(cat said)
+expect 'a sheet on a tray' 0 'key key: done
+tray tray: 4096 places
+make 0102030405060708 5: done
+draw: 5
+seal 5 7 rose a window: done
+read 7: number 5, label rose, message a window
+save tray.again: done' ''
+run shelf tray tray.again
+expect 'and in its image' 0 '4096 places, 4096 open, 1 with a record
+place 7: number 5' ''
 
 rm -r "$folder"
 exit $failed

@@ -26,4 +26,5 @@ IsCommand words =
     ⊎ (Begins (codes "lock") (Count 3) words
     ⊎ (Begins (codes "lock") (Begins (codes "--nonce") (Count 4)) words
     ⊎ (Begins (codes "unlock") (Count 3) words
-    ⊎ Begins (codes "shelf") IsShelf words))))
+    ⊎ (Begins (codes "shelf") IsShelf words
+    ⊎ Begins (codes "box") (Count 0) words)))))

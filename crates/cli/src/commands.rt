@@ -12,7 +12,8 @@ pub(crate) const USAGE: &str =
        majgunter lock [--nonce HEX] KEYFILE IN OUT      lock a file with a key of 32 bytes
        majgunter unlock KEYFILE IN OUT                  unlock it again
        majgunter shelf tray FILE                        print what a tray holds
-       majgunter shelf plate FILE PLACES                print what a plate of so many places holds";
+       majgunter shelf plate FILE PLACES                print what a plate of so many places holds
+       majgunter box                                    work a box by a script on standard input";
 
 // The names of the files that a locking or an unlocking is about.
 #[derive(Clone, Copy)]
@@ -39,6 +40,7 @@ pub(crate) enum Command<'a> {
         file: &'a str,
         places: &'a str,
     },
+    Box,
 }
 
 impl<'a> Command<'a> {
@@ -55,6 +57,7 @@ impl<'a> Command<'a> {
             "lock" => Command::of_lock(rest),
             "unlock" => Command::of_unlock(rest),
             "shelf" => Command::of_shelf(rest),
+            "box" => rest.is_empty().then_some(Command::Box),
             _ => None,
         }
     }

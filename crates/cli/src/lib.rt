@@ -4,7 +4,6 @@ ghost use Rattle.std.specs.Prelude.{map, IfOk, IsTrue, string_bytes};
 ghost use Rattle.cli.specs.Commands.{IsHelp, IsCommand};
 
 mod commands;
-mod files;
 mod locks;
 mod problems;
 mod shelves;
@@ -44,6 +43,7 @@ pub fn run(rt: &HostRuntime, words: &[String]) -> io::Result<bool>
         }
         Command::Tray { file } => command.told(rt, file, tray_told(rt, file)),
         Command::Plate { file, places } => command.told(rt, file, plate_told(rt, file, places)),
+        Command::Box => box_desk::work_script(rt),
     }
 }
 

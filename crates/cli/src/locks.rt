@@ -1,7 +1,7 @@
 use crate::commands::Files;
-use crate::files::{read_limited, write_whole};
 use crate::problems::Problem;
 use desk::{locked_bytes, unlocked_bytes};
+use files::{read_limited, write_whole};
 
 // Locks a file under a nonce of the system's choice, or under one given in hexadecimal digits.
 pub(crate) fn lock_file(

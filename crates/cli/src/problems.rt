@@ -1,4 +1,5 @@
 use desk::Unmade;
+use files::Unread;
 use std::alloc::AllocError;
 use std::{fmt, io};
 
@@ -8,11 +9,9 @@ pub enum Problem {
     Unmade(Unmade),
     NoDigits,
     NoCount,
-    Unread(io::Error),
+    Unread(Unread),
     KeyUnread(io::Error),
     Unwritten(io::Error),
-    // an image of more bytes than a shelf of its kind can have
-    Over(u64),
 }
 
 impl From<Unmade> for Problem {
@@ -27,9 +26,15 @@ impl From<AllocError> for Problem {
     }
 }
 
+impl From<Unread> for Problem {
+    fn from(u: Unread) -> Problem {
+        Problem::Unread(u)
+    }
+}
+
 impl From<io::Error> for Problem {
     fn from(e: io::Error) -> Problem {
-        Problem::Unread(e)
+        Problem::Unread(e.into())
     }
 }
 
@@ -39,10 +44,9 @@ impl fmt::Display for Problem {
             Problem::Unmade(unmade) => write!(f, "{unmade}"),
             Problem::NoDigits => write!(f, "the nonce is not in hexadecimal digits"),
             Problem::NoCount => write!(f, "the count of places is not a number"),
-            Problem::Unread(e) => write!(f, "{e}"),
+            Problem::Unread(unread) => write!(f, "{unread}"),
             Problem::KeyUnread(e) => write!(f, "the key file: {e}"),
             Problem::Unwritten(e) => write!(f, "the file to write: {e}"),
-            Problem::Over(limit) => write!(f, "over {limit} bytes, the most that such a shelf has"),
         }
     }
 }

@@ -3,14 +3,14 @@ use std::io::{Read, Write};
 use std::{fs, io};
 
 // At most so many bytes of a file, however long it is.
-pub(crate) fn read_limited(rt: &HostRuntime, name: &str, limit: u64) -> io::Result<Vec<u8>> {
+pub fn read_limited(rt: &HostRuntime, name: &str, limit: u64) -> io::Result<Vec<u8>> {
     let mut bytes = Vec::new(rt.alloc());
     File::open(rt, name)?.take(limit).read_to_end(&mut bytes)?;
     Ok(bytes)
 }
 
 // Writes a new file beside the name, and gives it the name when it is whole.
-pub(crate) fn write_whole(rt: &HostRuntime, name: &str, bytes: &[u8]) -> io::Result<()> {
+pub fn write_whole(rt: &HostRuntime, name: &str, bytes: &[u8]) -> io::Result<()> {
     let part = format!(in rt.alloc(); "{name}.part")?;
     let mut file = OpenOptions::new()
         .write(true)

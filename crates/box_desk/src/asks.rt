@@ -1,0 +1,110 @@
+ghost use Rattle.std.specs.Prelude.{◌≡◌, ◌<◌, ◌++◌, ◌-◌, length, replicate, MatchOption};
+
+use crate::answers::Answer;
+use crate::hand::Hand;
+use crate::image::Image;
+use crate::problems::Problem;
+use archive_box::{ArchiveBox, Number, Refusal};
+use files::write_whole;
+use saturnin::TwoWayCipher;
+use shelf::Shelf;
+use std::alloc::{AllocFailed, Global};
+
+pub(crate) fn draw<C: TwoWayCipher, S: Shelf>(
+    asked: &mut ArchiveBox<C, S>,
+    hand: &mut Hand,
+) -> Result<Answer, Problem> {
+    let number = asked.draw()?;
+    let value = number.value();
+    keep(asked, hand, number)?;
+    Ok(Answer::Drawn(value))
+}
+
+// Puts a number into the hand; with no memory for it, it is ended.
+fn keep<C: TwoWayCipher, S: Shelf>(
+    asked: &mut ArchiveBox<C, S>,
+    hand: &mut Hand,
+    number: Number,
+) -> Result<(), Problem> {
+    match hand.put(number) {
+        Ok(()) => Ok(()),
+        Err(AllocFailed { value }) => {
+            let _ = asked.void(value);
+            Err(Problem::Memory)
+        }
+    }
+}
+
+// The answer of a call that spends a number or hands it back.
+fn spent<C: TwoWayCipher, S: Shelf>(
+    asked: &mut ArchiveBox<C, S>,
+    hand: &mut Hand,
+    told: Result<Answer, Refusal>,
+) -> Result<Answer, Problem> {
+    match told {
+        Ok(answer) => Ok(answer),
+        Err(Refusal { fault, number }) => {
+            keep(asked, hand, number)?;
+            Err(fault.into())
+        }
+    }
+}
+
+pub(crate) fn seal<C: TwoWayCipher, S: Shelf>(
+    asked: &mut ArchiveBox<C, S>,
+    hand: &mut Hand,
+    number: Number,
+    place: u32,
+    label: &[u8],
+    message: &[u8],
+) -> Result<Answer, Problem> {
+    let mut record = [0; 1024];
+    let told = match padded(label) {
+        Some(label) => asked.seal(number, place, &label, message, &mut record),
+        None => asked.seal(number, place, label, message, &mut record),
+    };
+    spent(asked, hand, told.map(|()| Answer::Done))
+}
+
+// A label with zero bytes up to 46; none where it has more.
+fn padded(label: &[u8]) -> Option<[u8; 46]>
+    ensures { MatchOption result (46 < length label.now) (λ l. l ≡ label.now ++ replicate (46 - length label.now) 0) }
+{
+    if label.len() > 46 {
+        return None;
+    }
+    let mut room = [0; 46];
+    octets::paste(&mut room, 0, label);
+    Some(room)
+}
+
+pub(crate) fn slip<C: TwoWayCipher, S: Shelf>(
+    asked: &mut ArchiveBox<C, S>,
+    hand: &mut Hand,
+    number: Number,
+    message: &[u8],
+) -> Result<Answer, Problem> {
+    let mut bytes = [0; 48];
+    let told = asked.slip(number, message, &mut bytes);
+    spent(asked, hand, told.map(|()| Answer::Slip(bytes)))
+}
+
+pub(crate) fn unslip<C: TwoWayCipher, S: Shelf>(
+    asked: &ArchiveBox<C, S>,
+    heap: Global,
+    digits: &str,
+) -> Result<Answer, Problem> {
+    let slip = hexadecimal::decode(heap, digits)?.ok_or(Problem::NoDigits)?;
+    let mut bytes = [0; 15];
+    let length = asked.unslip(&slip, &mut bytes)?;
+    Ok(Answer::Message { bytes, length })
+}
+
+pub(crate) fn save<C: TwoWayCipher, S: Image>(
+    asked: &ArchiveBox<C, S>,
+    rt: &HostRuntime,
+    file: &str,
+) -> Result<Answer, Problem> {
+    write_whole(rt, file, asked.shelf().image()).map_err(Problem::Unwritten)?;
+    Ok(Answer::Done)
+}

@@ -1,0 +1,69 @@
+ghost use Rattle.std.specs.Prelude.{◌≡◌, ◌<◌, ◌++◌, ℕ, length, remove, slice_index_or, IfOk, IfSome, MatchResult};
+ghost use Rattle.archive_box.specs.declared.number.Number.{Number};
+ghost use Rattle.std.specs.Option.{option_to_list};
+
+use crate::problems::Problem;
+use archive_box::{ArchiveBox, Number};
+use saturnin::TwoWayCipher;
+use shelf::Shelf;
+use std::alloc::{AllocFailed, Global};
+use std::collections::VecDeque;
+
+// The numbers in hand, in the order in which they were drawn.
+pub(crate) struct Hand {
+    numbers: VecDeque<Number>,
+}
+
+impl Hand {
+    pub(crate) fn new(heap: Global) -> Hand {
+        Hand {
+            numbers: VecDeque::new(heap),
+        }
+    }
+
+    pub(crate) fn put(&mut self, number: Number) -> Result<(), AllocFailed<Number>> {
+        self.numbers.push_back(number)
+    }
+
+    // The latest number in hand with this value.
+    pub(crate) fn take(&mut self, value: u64) -> Result<Number, Problem>
+        ensures value { IfOk result (λ number. number.value ≡ value) }
+        ensures others { MatchResult result (λ number. (at : ℕ) × (at < length self.old.numbers.items) × (self.new.numbers.items ≡ remove self.old.numbers.items at)) (λ _. self.new ≡ self.old) }
+    {
+        match self.latest(value) {
+            Some(at) => match self.numbers.remove(at) {
+                Some(number) => Ok(number),
+                None => Err(Problem::NoNumber(value)),
+            },
+            None => Err(Problem::NoNumber(value)),
+        }
+    }
+
+    fn latest(&self, value: u64) -> Option<usize>
+        ensures { IfSome result (λ at. (at < length self.now.numbers.items) × ((number : Number) → (slice_index_or self.now.numbers.items at number).value ≡ value)) }
+    {
+        for at in (0..self.numbers.len()).rev() {
+            if let Some(number) = self.numbers.get(at)
+                && number.value() == value
+            {
+                return Some(at);
+            }
+        }
+        None
+    }
+
+    pub(crate) fn take_first(&mut self) -> Option<Number>
+        ensures { self.old.numbers.items ≡ option_to_list result ++ self.new.numbers.items }
+    {
+        self.numbers.pop_front()
+    }
+
+    // Ends each number in hand, by a box that it may not be out in: it is ended all the same.
+    pub(crate) fn end<C: TwoWayCipher, S: Shelf>(self, ender: &mut ArchiveBox<C, S>) {
+        let Hand { mut numbers } = self;
+        while let Some(number) = numbers.pop_front() {
+            let _ = ender.void(number);
+        }
+        numbers.destroy_empty();
+    }
+}

@@ -1,0 +1,71 @@
+use faults::{BoxFault, ShelfFault};
+use files::Unread;
+use std::alloc::AllocError;
+use std::{fmt, io};
+
+// Why a line was not done.
+#[derive(Drop)]
+pub(crate) enum Problem {
+    NoCall,
+    // how the call is to be written
+    Misspelt(&'static str),
+    TooLong,
+    NoDigits,
+    NoSign,
+    NoNumber(u64),
+    NoKey,
+    NoShelf,
+    NoBox,
+    NoSheet,
+    KeyLength,
+    Unread(Unread),
+    Unwritten(io::Error),
+    Memory,
+    Refused(BoxFault),
+}
+
+impl From<BoxFault> for Problem {
+    fn from(f: BoxFault) -> Problem {
+        Problem::Refused(f)
+    }
+}
+
+impl From<ShelfFault> for Problem {
+    fn from(f: ShelfFault) -> Problem {
+        Problem::Refused(f.into())
+    }
+}
+
+impl From<Unread> for Problem {
+    fn from(u: Unread) -> Problem {
+        Problem::Unread(u)
+    }
+}
+
+impl From<AllocError> for Problem {
+    fn from(_e: AllocError) -> Problem {
+        Problem::Memory
+    }
+}
+
+impl fmt::Display for Problem {
+    fn fmt<W: fmt::Write>(&self, f: &mut fmt::Formatter<W>) -> fmt::Result {
+        match self {
+            Problem::NoCall => write!(f, "no such call"),
+            Problem::Misspelt(usage) => write!(f, "to be written as \"{usage}\""),
+            Problem::TooLong => write!(f, "over 65535 bytes, the most that a line has"),
+            Problem::NoDigits => write!(f, "not in pairs of hexadecimal digits"),
+            Problem::NoSign => write!(f, "a sign has 16 hexadecimal digits"),
+            Problem::NoNumber(number) => write!(f, "no number {number} in hand"),
+            Problem::NoKey => write!(f, "no key yet"),
+            Problem::NoShelf => write!(f, "no tray or plate yet"),
+            Problem::NoBox => write!(f, "no box yet"),
+            Problem::NoSheet => write!(f, "no sheet in the record"),
+            Problem::KeyLength => write!(f, "a key file has 32 bytes"),
+            Problem::Unread(unread) => write!(f, "{unread}"),
+            Problem::Unwritten(e) => write!(f, "{e}"),
+            Problem::Memory => write!(f, "no memory"),
+            Problem::Refused(fault) => write!(f, "{fault}"),
+        }
+    }
+}

@@ -1,0 +1,24 @@
+use std::{fmt, io};
+
+// Why an image is not read.
+#[derive(Drop)]
+pub enum Unread {
+    Failed(io::Error),
+    // more bytes than a shelf of its kind can have
+    Over(u64),
+}
+
+impl From<io::Error> for Unread {
+    fn from(e: io::Error) -> Unread {
+        Unread::Failed(e)
+    }
+}
+
+impl fmt::Display for Unread {
+    fn fmt<W: fmt::Write>(&self, f: &mut fmt::Formatter<W>) -> fmt::Result {
+        match self {
+            Unread::Failed(e) => write!(f, "{e}"),
+            Unread::Over(limit) => write!(f, "over {limit} bytes, the most that such a shelf has"),
+        }
+    }
+}

@@ -1,0 +1,3 @@
+pub mod Messages
+pub mod Spelling
+pub mod Words

@@ -1,0 +1,57 @@
+-- The lines that calls are spelt by: the name of a call first, and the rest after it.
+use Rattle.std.specs.Prelude.{◌≡◌, ◌≢◌, ℕ, List, [], codes}
+use Rattle.script.specs.Words.{first_word, after_word, without_blanks, Numeral}
+use Rattle.script.specs.Messages.{SpellsMessage}
+use Rattle.script.specs.declared.box_calls.BoxCall.{BoxCall}
+use Rattle.script.specs.declared.box_calls.BoxCall.TheVariants.{Draw, Seal, Slip, Void, Clear, Unslip, Number, Save}
+use Rattle.script.specs.declared.calls.Call.{Call}
+use Rattle.script.specs.declared.calls.Call.TheVariants.{Set, Make, Read, Ask}
+use Rattle.script.specs.declared.settings.CipherForm.TheVariants.{Cube, Words}
+use Rattle.script.specs.declared.settings.Setting.{Setting}
+use Rattle.script.specs.declared.settings.Setting.TheVariants.{Key, Form, Tray, Plate}
+
+-- a text of one word, which is this one
+abbrev pub Only : (text word : List ℕ) → Type 0
+Only text word = (first_word text ≡ word) × (word ≢ []) × (after_word text ≡ [])
+
+-- a text of one word, which spells this number
+abbrev pub OnlyNumeral : (bits : ℕ) (text : List ℕ) (n : ℕ) → Type 0
+OnlyNumeral bits text n = Numeral bits (first_word text) n × (after_word text ≡ [])
+
+abbrev pub SpellsSetting : (name rest : List ℕ) → Setting → Type 0
+SpellsSetting name rest (Key file) = (name ≡ codes "key") × Only rest file.now
+SpellsSetting name rest (Form Cube) = (name ≡ codes "form") × Only rest (codes "cube")
+SpellsSetting name rest (Form Words) = (name ≡ codes "form") × Only rest (codes "words")
+SpellsSetting name rest (Tray file) = (name ≡ codes "tray") × Only rest file.now
+SpellsSetting name rest (Plate file places) =
+    (name ≡ codes "plate") × (first_word rest ≡ file.now) × (file.now ≢ []) × OnlyNumeral 32 (after_word rest) places
+
+abbrev pub SpellsBoxCall : (name rest : List ℕ) → BoxCall → Type 0
+SpellsBoxCall name rest Draw = (name ≡ codes "draw") × (rest ≡ [])
+SpellsBoxCall name rest (Seal number place label message) =
+    let from_place : List ℕ = after_word rest in
+    let from_label : List ℕ = after_word from_place in
+    (name ≡ codes "seal")
+    × Numeral 64 (first_word rest) number
+    × Numeral 32 (first_word from_place) place
+    × (first_word from_label ≡ label.now)
+    × SpellsMessage (after_word from_label) message
+SpellsBoxCall name rest (Slip number message) =
+    (name ≡ codes "slip") × Numeral 64 (first_word rest) number × SpellsMessage (after_word rest) message
+SpellsBoxCall name rest (Void number) = (name ≡ codes "void") × OnlyNumeral 64 rest number
+SpellsBoxCall name rest (Clear place) = (name ≡ codes "clear") × OnlyNumeral 32 rest place
+SpellsBoxCall name rest (Unslip digits) = (name ≡ codes "unslip") × Only rest digits.now
+SpellsBoxCall name rest (Number place) = (name ≡ codes "number") × OnlyNumeral 32 rest place
+SpellsBoxCall name rest (Save file) = (name ≡ codes "save") × Only rest file.now
+
+-- what stands after the name
+abbrev pub SpellsAfter : (name rest : List ℕ) → Call → Type 0
+SpellsAfter name rest (Set setting) = SpellsSetting name rest setting
+SpellsAfter name rest (Make sign first) =
+    (name ≡ codes "make") × (first_word rest ≡ sign.now) × (sign.now ≢ []) × OnlyNumeral 64 (after_word rest) first
+SpellsAfter name rest (Read place) = (name ≡ codes "read") × OnlyNumeral 32 rest place
+SpellsAfter name rest (Ask call) = SpellsBoxCall name rest call
+
+-- a line that spells a call
+abbrev pub Spells : (line : List ℕ) → Call → Type 0
+Spells line call = SpellsAfter (first_word (without_blanks line)) (after_word (without_blanks line)) call

@@ -1,0 +1,50 @@
+ghost use Rattle.std.specs.Prelude.{IfSome, codes};
+ghost use Rattle.script.specs.Spelling.{Spells, SpellsAfter};
+
+use crate::box_calls::BoxCall;
+use crate::settings::Setting;
+use crate::words::{number_in, only, place_in, split_word, text_of, without_blanks};
+
+// What a line of a script calls for.
+#[derive(Clone, Copy)]
+pub enum Call<'a> {
+    Set(Setting<'a>),
+    // a box with a sign in hexadecimal digits
+    Make { sign: &'a str, first: u64 },
+    // apart from the other calls on a box, since its sheet is only looked at
+    Read { place: u32 },
+    Ask(BoxCall<'a>),
+}
+
+impl<'a> Call<'a> {
+    // The call that a line is, if it is one.
+    pub fn of(line: &'a [u8]) -> Option<Call<'a>>
+        ensures { IfSome result (Spells line.now) }
+    {
+        let (name, rest) = split_word(without_blanks(line));
+        Call::named(text_of(name)?, rest)
+    }
+
+    fn named(name: &str, rest: &'a [u8]) -> Option<Call<'a>>
+        ensures { IfSome result (SpellsAfter name.now rest.now) }
+    {
+        match name {
+            "make" => Call::of_make(rest),
+            "read" => Some(Call::Read {
+                place: place_in(only(rest)?)?,
+            }),
+            "key" | "form" | "tray" | "plate" => Some(Call::Set(Setting::of(name, rest)?)),
+            _ => Some(Call::Ask(BoxCall::of(name, rest)?)),
+        }
+    }
+
+    fn of_make(rest: &'a [u8]) -> Option<Call<'a>>
+        ensures { IfSome result (SpellsAfter (codes "make") rest.now) }
+    {
+        let (sign, first) = split_word(rest);
+        Some(Call::Make {
+            sign: text_of(sign)?,
+            first: number_in(only(first)?)?,
+        })
+    }
+}
