@@ -1,3 +1,6 @@
+ghost use Rattle.std.specs.Prelude.{◌≡◌};
+ghost use Rattle.files.specs.declared.unread.Unread.TheVariants.{Failed};
+
 use std::{fmt, io};
 
 // Why an image is not read.
@@ -9,6 +12,8 @@ pub enum Unread {
 }
 
 impl From<io::Error> for Unread {
+    ghost from_gives = { λ e r. r ≡ Failed e };
+
     fn from(e: io::Error) -> Unread {
         Unread::Failed(e)
     }

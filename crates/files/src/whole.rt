@@ -1,11 +1,17 @@
+ghost use Rattle.std.specs.Prelude.{◌≤◌, length, IfOk};
+
 use std::fs::{File, OpenOptions};
 use std::io::{Read, Write};
 use std::{fs, io};
 
 // At most so many bytes of a file, however long it is.
-pub fn read_limited(rt: &HostRuntime, name: &str, limit: u64) -> io::Result<Vec<u8>> {
+pub fn read_limited(rt: &HostRuntime, name: &str, limit: u64) -> io::Result<Vec<u8>>
+    ensures { IfOk result (λ bytes. length bytes.items ≤ limit) }
+{
     let mut bytes = Vec::new(rt.alloc());
     File::open(rt, name)?.take(limit).read_to_end(&mut bytes)?;
+    // Nothing is left to cut; the contract of the reading does not say so.
+    bytes.truncate(limit as usize);
     Ok(bytes)
 }
 
