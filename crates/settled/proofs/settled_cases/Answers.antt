@@ -4,6 +4,8 @@ use Rattle.saturnin.specs.Cube.{table, register, word}
 use Rattle.saturnin.specs.Layers.{σ₀, σ₁, SR_slice, SR_sheet, SR, α, ⊕, M_row}
 use Rattle.saturnin.specs.Rounds.{clock, rotated}
 use Rattle.settled.proofs.Counters.{counter_16, counter_20}
+use Rattle.settled.proofs.Marks.{plate_cell_0, plate_cell_1, plate_open}
+use Rattle.settled.proofs.Limits.{plate_13, sheet_928, slip_15, nonce_20, used_up}
 use Rattle.settled.proofs.settled_cases.Goals as goal
 
 pub returns : goal.returns
@@ -23,4 +25,12 @@ returns c = record {
   word_0 = refl;
   counter_16 = counter_16;
   counter_20 = counter_20;
+  plate_cell_0 = plate_cell_0;
+  plate_cell_1 = plate_cell_1;
+  plate_open = plate_open;
+  plate_gap = plate_13;
+  sheet_928 = sheet_928;
+  slip_15 = slip_15;
+  nonce_20 = nonce_20;
+  used_up = used_up;
 }

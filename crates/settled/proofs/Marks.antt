@@ -6,7 +6,7 @@ use Rattle.saturnin.specs.Cube.{table}
 use Rattle.shelf.specs.Meaning.{Open}
 use Rattle.shelf.specs.Plates.{cells, mark, Fit, used, last_cell, plate}
 use Rattle.shelf.proofs.Cells.{last-here, last-before, used_more, used_less}
-use Rattle.plate.specs.Settled.{Marks}
+use Rattle.settled.specs.Settled.{Marks}
 
 -- mark j of marks that are written out
 mark-at : (memory marks : List ℕ) → Marks memory marks → (j : ℕ) → get_or (table (length marks) (mark memory)) j 0 ≡ get_or marks j 0

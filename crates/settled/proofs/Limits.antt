@@ -1,0 +1,48 @@
+-- The limits of sheets, slips and nonces, and the end of the numbers.
+use Rattle.std.proofs.Common.{◌≡◌, ℕ, ◌+◌, List, [], ◌∷◌, ◌++◌, length, None, Ok, Result, refl, arith}
+use Rattle.faults.specs.declared.BoxCause.TheVariants.{Mode, Shelf}
+use Rattle.faults.specs.declared.ModeFault.{ModeFault}
+use Rattle.faults.specs.declared.ShelfFault.{ShelfFault}
+use Rattle.faults.specs.declared.BoxFault.{BoxFault}
+use Rattle.faults.proofs.Results.{never_both, same_value}
+use Rattle.faults.proofs.Tables.{done_when}
+use Rattle.saturnin.specs.Meaning.{BlockFunction}
+use Rattle.modes.specs.Cascade.{seal_table as cascade_table, Seals as CascadeSeals}
+use Rattle.shelf.specs.Meaning.{Answers}
+use Rattle.shelf.specs.Plates.{fit_table}
+use Rattle.logs.specs.States.{Made, State}
+use Rattle.logs.specs.Calls.{refused, draw_table, Draws, seal_table, Seals, slip_table, Slips}
+use Rattle.settled.specs.Settled.{Marks, Gets, Takes}
+use Rattle.settled.proofs.Marks.{plate_gap}
+
+module _ (made : Made) (s t : State) (number place : ℕ) (label buffer buffer' : List ℕ) where
+  pub sheet_928 : Takes (λ (fault : BoxFault). fault.cause) 928 (λ message. seal_table made s number place label message buffer) (λ message answer. Seals made s number place label message buffer answer buffer' t)
+  sheet_928 message answer c b = (
+    λ e. (((((b.1 c.0).1 (λ l. omega (arith, l, e))).1 c.1.1.0).1 c.1.1.1.0).1 c.1.1.1.1.0).0,
+    λ e. (_, ((b.1 c.0).0 (omega (arith, e))).0, refl),
+  )
+
+module _ (made : Made) (s t : State) (number : ℕ) (buffer buffer' : List ℕ) where
+  pub slip_15 : Takes (λ (fault : BoxFault). fault.cause) 15 (λ message. slip_table made s number message buffer) (λ message answer. Slips made s number message buffer answer buffer' t)
+  slip_15 message answer c b = (
+    λ e. (((b.1 c.0).1 (λ l. omega (arith, l, e))).1 c.1.1.0).0,
+    λ e. (_, ((b.1 c.0).0 (omega (arith, e))).0, refl),
+  )
+
+module _ (f : BlockFunction) (key associated message out sign out' sign' : List ℕ) where
+  pub nonce_20 : Takes (λ (fault : ModeFault). Mode fault.cause) 20 (λ nonce. cascade_table (length key) (length nonce) (length associated) (length message) (length out) (length sign))
+      (λ nonce answer. CascadeSeals f key nonce associated message out sign answer out' sign')
+  nonce_20 nonce answer c b = (
+    λ e. ((b.1 c.0).1 (λ n. c.1.0 (λ h. n (omega (arith, e), h.1, h.2)))).0,
+    λ e. (_, ((b.1 c.0).0 (λ h. omega (arith, h.0, e))).0, refl),
+  )
+
+pub plate_13 : (memory : List ℕ) (places : ℕ) (answer : Result (Unit {0}) ShelfFault)
+    → Marks memory (1 ∷ 0 ∷ 2 ∷ []) → Answers (fit_table memory places) None answer → Gets (λ fault. Shelf fault.cause) 13 answer
+plate_13 memory places answer h b = (_, b.0 (plate_gap memory places h), refl)
+
+pub used_up : (made : Made) (s t u : State) (answer : Result ℕ BoxFault) → Draws made s (Ok 999999999) t → Draws made t answer u → Gets (λ fault. fault.cause) 7 answer
+used_up made s t u answer first then =
+    let done : (◌≡◌ {A = Result ℕ BoxFault} (Ok 999999999) (Ok s.next)) × (t.shelf ≡ s.shelf) × (t.next ≡ s.next + 1) × (t.out ≡ s.out ++ (s.next ∷ [])) =
+    (done_when _ _ (draw_table made s) (λ cause (h : (◌≡◌ {A = Result ℕ BoxFault} (Ok 999999999) (refused None cause)) × (t ≡ s)). never_both _ _ h.0) first).1 in
+    (_, (then.0 (omega (arith, done.2, same_value _ _ done.0))).0, refl)
