@@ -1,0 +1,174 @@
+use crate::calls::{Answer, Call, Refused, Told};
+use crate::plain_records::{length_of, number_of, opened, sheet, slip, write};
+use crate::plain_shelf::PlainShelf;
+
+// A box once more, by its rules, on the plain shelf.
+#[derive(Drop)]
+pub(crate) struct PlainBox {
+    pub(crate) key: [u8; 32],
+    pub(crate) sign: [u8; 8],
+    pub(crate) next: u64,
+    pub(crate) out: [Option<u64>; 16],
+    pub(crate) shelf: PlainShelf,
+}
+
+// A slip that was made under a key.
+#[derive(Clone, Copy)]
+pub(crate) struct Slipped {
+    pub(crate) key: [u8; 32],
+    pub(crate) bytes: [u8; 48],
+    pub(crate) message: [u8; 15],
+    pub(crate) length: usize,
+}
+
+// Layers: modes 1, shelf 2, box 3.
+fn refused(number: u8, layer: u8, place: Option<u32>) -> Answer {
+    Err(Refused {
+        number,
+        layer,
+        place,
+    })
+}
+
+impl PlainBox {
+    // The answer of a call; the room becomes what it should hold then. A slip opens if it is one of those that were made.
+    pub(crate) fn answer(&mut self, slips: &[Slipped], call: &Call, room: &mut [u8]) -> Answer {
+        match call {
+            Call::Draw => self.draw(),
+            Call::Seal {
+                number,
+                place,
+                label,
+                message,
+            } => self.seal(*number, *place, label, message, room),
+            Call::Slip { number, message } => self.slip(*number, message, room),
+            Call::Void { number } => self.spend(*number, None),
+            Call::Clear { place } => self.clear(*place),
+            Call::Read { place } => self.read(*place, room),
+            Call::Unslip { bytes } => self.unslip(slips, bytes, room),
+            Call::NumberAt { place } => self.number_at(*place),
+        }
+    }
+
+    fn draw(&mut self) -> Answer {
+        if self.next > 999_999_999 {
+            return refused(7, 3, None);
+        }
+        for slot in self.out.iter_mut() {
+            if slot.is_none() {
+                *slot = Some(self.next);
+                self.next = self.next.saturating_add(1);
+                return Ok(Told::Drawn(self.next.saturating_sub(1)));
+            }
+        }
+        refused(8, 3, None)
+    }
+
+    // Ends a number that is out.
+    fn spend(&mut self, number: u64, place: Option<u32>) -> Answer {
+        for slot in self.out.iter_mut() {
+            if *slot == Some(number) {
+                *slot = None;
+                return Ok(Told::Done);
+            }
+        }
+        refused(6, 3, place)
+    }
+
+    fn seal(
+        &mut self,
+        number: u64,
+        place: u32,
+        label: &[u8],
+        message: &[u8],
+        room: &mut [u8],
+    ) -> Answer {
+        if label.len() != 46 || room.len() != 1024 {
+            return refused(1, 3, Some(place));
+        }
+        if message.len() > 928 {
+            return refused(2, 3, Some(place));
+        }
+        if place >= self.shelf.count() {
+            return refused(4, 2, Some(place));
+        }
+        if !self.shelf.is_open(place) {
+            return refused(5, 2, Some(place));
+        }
+        self.spend(number, Some(place))?;
+        let record = sheet(&self.key, &self.sign, number, place, label, message);
+        self.shelf.put(place, &record);
+        write(room, 0, &record);
+        Ok(Told::Done)
+    }
+
+    fn slip(&mut self, number: u64, message: &[u8], room: &mut [u8]) -> Answer {
+        if room.len() != 48 {
+            return refused(1, 3, None);
+        }
+        if message.len() > 15 {
+            return refused(2, 3, None);
+        }
+        self.spend(number, None)?;
+        write(room, 0, &slip(&self.key, &self.sign, number, message));
+        Ok(Told::Done)
+    }
+
+    fn clear(&mut self, place: u32) -> Answer {
+        if place >= self.shelf.count() {
+            return refused(4, 2, Some(place));
+        }
+        if !self.shelf.is_open(place) {
+            return refused(5, 2, Some(place));
+        }
+        self.shelf.put(place, &[0; 1024]);
+        Ok(Told::Done)
+    }
+
+    fn read(&self, place: u32, room: &mut [u8]) -> Answer {
+        if room.len() != 1024 {
+            return refused(1, 3, Some(place));
+        }
+        if place >= self.shelf.count() {
+            return refused(4, 2, Some(place));
+        }
+        let record = self.shelf.record(place);
+        match opened(&self.key, place, &record) {
+            Ok(opened) => {
+                write(room, 0, &opened);
+                Ok(Told::Found(number_of(&record), length_of(&record)))
+            }
+            Err(number) => {
+                room.fill(0);
+                refused(number, if number == 11 { 1 } else { 3 }, Some(place))
+            }
+        }
+    }
+
+    fn unslip(&self, slips: &[Slipped], bytes: &[u8], room: &mut [u8]) -> Answer {
+        if bytes.len() != 48 || room.len() != 15 {
+            return refused(1, 3, None);
+        }
+        for slip in slips {
+            if slip.key == self.key && slip.bytes.as_slice() == bytes {
+                write(room, 0, &slip.message);
+                return Ok(Told::Message(slip.length));
+            }
+        }
+        room.fill(0);
+        refused(12, 1, None)
+    }
+
+    fn number_at(&self, place: u32) -> Answer {
+        if place >= self.shelf.count() {
+            return refused(4, 2, Some(place));
+        }
+        let record = self.shelf.record(place);
+        let empty = record.iter().all(|b| *b == 0);
+        Ok(Told::NumberAt(if empty {
+            None
+        } else {
+            Some(number_of(&record))
+        }))
+    }
+}
