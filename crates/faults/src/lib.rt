@@ -1,7 +1,8 @@
 #![tactic(auto)]
 
-ghost use Rattle.std.specs.Prelude.{◌≡◌, None};
+ghost use Rattle.std.specs.Prelude.{◌≡◌, None, Some};
 ghost use Rattle.faults.specs.Causes.{entry, from_mode, from_shelf, placed};
+ghost use Rattle.faults.specs.Words.{meaning, told};
 ghost use Rattle.faults.specs.declared.BoxCause.TheVariants.{Mode, Shelf};
 
 use std::fmt;
@@ -135,6 +136,8 @@ impl BoxCause {
 
 // What the cause means, in words.
 impl fmt::Display for BoxCause {
+    ghost output = { λ c. Some (meaning c) };
+
     fn fmt<W: fmt::Write>(&self, f: &mut fmt::Formatter<W>) -> fmt::Result {
         let words = match self {
             BoxCause::Mode(ModeCause::Length)
@@ -222,6 +225,8 @@ impl From<ShelfFault> for BoxFault {
 
 // `refused with 4, layer 2, place 7: no such place`
 impl fmt::Display for BoxFault {
+    ghost output = { λ f. Some (told f) };
+
     fn fmt<W: fmt::Write>(&self, f: &mut fmt::Formatter<W>) -> fmt::Result {
         let number = self.number();
         let layer = self.layer();
@@ -235,6 +240,8 @@ impl fmt::Display for BoxFault {
 }
 
 impl fmt::Display for ModeFault {
+    ghost output = { λ f. Some (told (from_mode f)) };
+
     fn fmt<W: fmt::Write>(&self, f: &mut fmt::Formatter<W>) -> fmt::Result {
         let raised: BoxFault = (*self).into();
         write!(f, "{raised}")
@@ -242,6 +249,8 @@ impl fmt::Display for ModeFault {
 }
 
 impl fmt::Display for ShelfFault {
+    ghost output = { λ f. Some (told (from_shelf f)) };
+
     fn fmt<W: fmt::Write>(&self, f: &mut fmt::Formatter<W>) -> fmt::Result {
         let raised: BoxFault = (*self).into();
         write!(f, "{raised}")
