@@ -7,9 +7,9 @@ ghost use Rattle.hexadecimal.specs.Hex.{spelled, Spells};
 use std::alloc::{AllocError, Global};
 
 // Spelt out here and not by the kit's library `hex`: by a rule of the project, bugs such as swapped digits are planted in this code.
-// The bytes in digits, two for each.
+// The bytes in digits, two for each; a text that spells them, so that `decode` gives them back.
 pub fn encode(heap: Global, bytes: &[u8]) -> Result<String, AllocError>
-    ensures { IfOk result (λ s. string_bytes s ≡ spelled bytes.now) }
+    ensures { IfOk result (λ s. (string_bytes s ≡ spelled bytes.now) × Spells (string_bytes s) bytes.now) }
 {
     let mut text = String::new(heap);
     for b in bytes {

@@ -1,6 +1,8 @@
-use Rattle.std.proofs.Common.{append_assoc, arith}
+use Rattle.std.proofs.Common.{◌≡◌, string_bytes, ap, ◌∙◌, append_assoc, arith}
+use Rattle.std.proofs.lemmas.List.{take_all}
 use Rattle.hexadecimal.specs.Hex.{spelled}
 use Rattle.hexadecimal.proofs.Spelling.{spelled_more}
+use Rattle.hexadecimal.proofs.Back.{spelled_back}
 use Rattle.hexadecimal.proofs.encode.Goals as goal
 
 pub loop-b-init : goal.loop-b-init
@@ -21,3 +23,9 @@ loop-b-preserved c =
       c.loop-b.invariant,
       spelled_more c.args.bytes.now i (omega arith),
     )
+
+pub returns : goal.returns
+returns c =
+    let bytes = c.args.bytes.now in
+    let e : string_bytes c.loop-b.text ≡ spelled bytes = c.loop-b.invariant ∙ ap spelled (take_all c.loop-b.b-index bytes (omega (arith, c.loop-b-test.false))) in
+    (e, spelled_back (string_bytes c.loop-b.text) bytes (λ i. (c.type_inv.bytes i).fits) e)
