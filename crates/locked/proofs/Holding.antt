@@ -11,7 +11,7 @@ use Rattle.modes.proofs.Texts.{take-bytes}
 use Rattle.modes.proofs.Streams.{ctr_twice}
 use Rattle.modes.proofs.Blocks.{drop-bytes, tag-bytes, ctr-bytes}
 use Rattle.modes.proofs.Exactly.{stable_same}
-use Rattle.locked.specs.Locked.{magic, locked, Holds, Unlocks}
+use Rattle.locked.specs.Locked.{magic, locked, Holds, HoldsOnly, Unlocks}
 use Rattle.locked.proofs.Parts.{in_parts, part-magic, part-nonce, part_rest}
 
 magic-bytes : Octets magic
@@ -71,11 +71,16 @@ module _ (f : BlockFunction) (key file : List ℕ) where
     unfolding sign text
     sign-long = (tag-bytes f gives key h.nonce kb (omega (arith, h.nonce_long)) nonce-bytes magic _ magic-bytes (ctr-bytes f gives key h.nonce kb (omega (arith, h.nonce_long)) nonce-bytes message h.bytes)).0
 
+    held-text : text_of ≡ text
+    held-text = sym (drop-drop 32 24 file) ∙ ap (drop 32) held_rest ∙ drop_at sign text 32 sign-long
+
     pub held-sign : sign_of ≡ tag f key nonce_of magic text_of
     unfolding sign
-    held-sign =
-        let t : text_of ≡ text = sym (drop-drop 32 24 file) ∙ ap (drop 32) held_rest ∙ drop_at sign text 32 sign-long in
-        ap (take 32) held_rest ∙ take_at sign text 32 sign-long ∙ ap₂ (λ n t. tag f key n magic t) (sym held-nonce) (sym t)
+    held-sign = ap (take 32) held_rest ∙ take_at sign text 32 sign-long ∙ ap₂ (λ n t. tag f key n magic t) (sym held-nonce) (sym held-text)
+
+    pub held-message : message ≡ ctr f key nonce_of text_of
+    unfolding text
+    held-message = sym (ctr_twice f key h.nonce message) ∙ ap₂ (ctr f key) (sym held-nonce) (sym held-text)
 
 -- an unlocking of a file of the right length, with the magic word, by what the opening of its parts answered
 module _ (f : BlockFunction) (gives : GivesBlocks f) (key file out : List ℕ) (kb : Octets key) (fb : Octets file) (answer : Result (Unit {0}) ModeFault) (out' : List ℕ) (ob : Octets out')
@@ -86,13 +91,13 @@ module _ (f : BlockFunction) (gives : GivesBlocks f) (key file out : List ℕ) (
   pub this_word : take 4 file ≡ magic → Opens f key (nonce_of f key file) magic (text_of f key file) (sign_of f key file) out answer out' → Unlocks f key file out answer out'
   this_word word opens =
       let rest = (opens.1 (λ k. k (kl, simp length-drop (omega arith), simp (length-take, length-drop) (omega arith)))).1 (λ k. k (simp (length-take, length-drop) (omega arith), lit≤ tt, simp length-drop (omega arith))) in
-      let held : sign_of f key file ≡ tag f key (nonce_of f key file) magic (text_of f key file) → (answer ≡ Ok tt) × Holds f key file out' =
-      λ e. let d = rest.1 (λ k. k e) in (d.0, holds f key file (length out) out' fl ob word e d.1) in (
+      let held : sign_of f key file ≡ tag f key (nonce_of f key file) magic (text_of f key file) → (answer ≡ Ok tt) × HoldsOnly f key file out' =
+      λ e. let d = rest.1 (λ k. k e) in (d.0, (holds f key file (length out) out' fl ob word e d.1, λ other h. held-message f key file gives (kl, kb) fb other h ∙ sym d.1)) in (
         λ h. absurd (h (kl, fl)),
         λ n. (
           λ h. absurd (omega arith),
           λ m. (
-            λ no. rest.0 (λ e. no (out', (held e).1)),
+            λ no. rest.0 (λ e. no (out', (held e).1.0)),
             λ nn. held (stable_same _ _ (λ q. nn (λ w. q (held-sign f key file gives (kl, kb) fb w.0 w.1)))),
           ),
         ),

@@ -36,6 +36,10 @@ pub record Holds (f : BlockFunction) (key file message : List ℕ) : Type 0 wher
   pub bytes : (i : ℕ) → at message i < 256
   pub file_is : file ≡ locked f key nonce message
 
+-- the message that a file holds; the key tells it from every other, under whatever nonce
+abbrev pub HoldsOnly : BlockFunction → (key file message : List ℕ) → Type 0
+HoldsOnly f key file message = Holds f key file message × ((other : List ℕ) → Holds f key file other → other ≡ message)
+
 -- key, file, and the buffer for the message by its length; a file without a message is damaged, locked by another key, or no
 -- locked file
 abbrev pub unlock_table : BlockFunction → (key file : List ℕ) (out : ℕ) → Table ModeCause
@@ -50,4 +54,4 @@ abbrev pub Unlocks : BlockFunction → (key file out : List ℕ) → Result (Uni
 Unlocks f key file out answer out' =
     By (unlock_table f key file (length out))
     (λ cause. (answer ≡ Err (record { cause = cause })) × (out' ≡ left cause out))
-    ((answer ≡ Ok tt) × Holds f key file out')
+    ((answer ≡ Ok tt) × HoldsOnly f key file out')
