@@ -1,7 +1,7 @@
 ghost use Rattle.std.specs.Prelude.{◌≡◌, ℕ, ◌<◌, ◌≤◌, None};
 ghost use Rattle.faults.specs.Tables.{By};
 ghost use Rattle.shelf.specs.Meaning.{Answers};
-ghost use Rattle.shelf.specs.Plates.{cells, mark, NoMarkAbove, fit_table, used as used_of, LastCell, plate, PlateStores};
+ghost use Rattle.shelf.specs.Plates.{cells, mark, NoMarkAbove, fit_table, used as used_of, LastCell, held, plate, PlateStores};
 ghost use Rattle.shelf.proofs.Plates.{plate_lawful};
 
 use crate::cells::{cells_in, count_used, has_gap, last_cell_of, marks_fit};
@@ -59,9 +59,10 @@ impl<'a> Plate<'a> {
         self.memory
     }
 
-    // The cell that has the record of a place; none where the place was never put.
+    // The cell that has the record of a place; none where the place was never put. The place holds that record, or zeros.
     pub fn last_cell(&self, place: u32) -> Option<usize>
         ensures inside { place < self.now.places → LastCell self.now.memory.now place (cells self.now.memory.now) result }
+        ensures holds { place < self.now.places → (plate self.now.memory.now self.now.places).bytes place ≡ held self.now.memory.now result }
         ensures outside { self.now.places ≤ place → result ≡ None }
     {
         if place >= self.places {
