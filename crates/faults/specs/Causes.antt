@@ -1,5 +1,5 @@
 -- Why a call is refused: the number and the layer of each cause, and what becomes of a fault on its way up to the box.
-use Rattle.std.specs.Prelude.{ℕ, Bool, true, false, Some, None}
+use Rattle.std.specs.Prelude.{ℕ, Bool, true, false, cond, List, length, replicate, Some, None}
 use Rattle.faults.specs.declared.ModeCause.TheVariants.{Length as ModeLength, Limit as ModeLimit, Parameter, Tag, Slip}
 use Rattle.faults.specs.declared.ShelfCause.TheVariants.{Length as ShelfLength, Outside, Shut, Unfit}
 use Rattle.faults.specs.declared.BoxCause.{BoxCause}
@@ -61,3 +61,7 @@ wipes UsedUp = false
 wipes SixteenOut = false
 wipes Empty = true
 wipes Filling = true
+
+-- what a refusal leaves in a buffer
+abbrev pub left : BoxCause → List ℕ → List ℕ
+left cause buffer = cond (wipes cause) (replicate (length buffer) 0) buffer

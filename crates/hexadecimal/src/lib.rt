@@ -6,7 +6,7 @@ ghost use Rattle.hexadecimal.specs.Hex.{spelled, Spells};
 
 use std::alloc::{AllocError, Global};
 
-// Spelt out here and not by the kit's library `hex`: by a rule of the project, bugs such as swapped digits are planted in this code.
+// Spelt out here and not by the kit's library `hex`, so that bugs such as swapped digits can be planted in this code.
 // The bytes in digits, two for each; a text that spells them, so that `decode` gives them back.
 pub fn encode(heap: Global, bytes: &[u8]) -> Result<String, AllocError>
     ensures { IfOk result (λ s. (string_bytes s ≡ spelled bytes.now) × Spells (string_bytes s) bytes.now) }

@@ -1,12 +1,14 @@
 -- Locked files: their format, and the tables and results of locking and unlocking.
 use Rattle.std.specs.Prelude.{◌≡◌, ℕ, ◌+◌, ◌<◌, List, [], ◌∷◌, ◌++◌, length, Ok, Err, codes, Result}
+use Rattle.faults.specs.Causes.{left}
 use Rattle.faults.specs.Tables.{Table, By, Not}
 use Rattle.faults.specs.declared.ModeCause.{ModeCause}
 use Rattle.faults.specs.declared.ModeCause.TheVariants.{Length, Limit, Tag}
+use Rattle.faults.specs.declared.BoxCause.TheVariants.{Mode}
 use Rattle.faults.specs.declared.ModeFault.{ModeFault}
-use Rattle.saturnin.specs.Cube.{at}
+use Rattle.octets.specs.Octets.{Octets}
 use Rattle.saturnin.specs.Meaning.{BlockFunction}
-use Rattle.modes.specs.Cascade.{ctr, tag, left}
+use Rattle.modes.specs.Cascade.{ctr, tag}
 
 -- the word that a locked file begins with, which is also its associated data
 abbrev pub magic : List ℕ
@@ -33,7 +35,7 @@ Locks f key nonce message file answer file' =
 pub record Holds (f : BlockFunction) (key file message : List ℕ) : Type 0 where
   pub nonce : List ℕ
   pub nonce_long : length nonce ≡ 20
-  pub bytes : (i : ℕ) → at message i < 256
+  pub bytes : Octets message
   pub file_is : file ≡ locked f key nonce message
 
 -- the message that a file holds; the key tells it from every other, under whatever nonce
@@ -53,5 +55,5 @@ unlock_table f key file out =
 abbrev pub Unlocks : BlockFunction → (key file out : List ℕ) → Result (Unit {0}) ModeFault → (out' : List ℕ) → Type 0
 Unlocks f key file out answer out' =
     By (unlock_table f key file (length out))
-    (λ cause. (answer ≡ Err (record { cause = cause })) × (out' ≡ left cause out))
+    (λ cause. (answer ≡ Err (record { cause = cause })) × (out' ≡ left (Mode cause) out))
     ((answer ≡ Ok tt) × HoldsOnly f key file out')

@@ -8,9 +8,9 @@ use Rattle.modes.specs.Cascade.{ctr, tag}
 use Rattle.modes.proofs.Streams.{length-ctr, ctr_twice}
 use Rattle.shelf.specs.Meaning.{Meaning}
 use Rattle.sheets.specs.Records.{empty, number_in}
-use Rattle.sheets.specs.Sheets.{sheet, nonce_of, associated, head_of, length_in, tag_in, WellFormed, with_text, text_in}
+use Rattle.sheets.specs.Sheets.{sheet, nonce_of, associated, head_of, length_in, tag_in, WellFormed, with_text, text_in, right_tag}
 use Rattle.logs.specs.States.{State, Made, Fair}
-use Rattle.logs.specs.Calls.{Reads, right_tag}
+use Rattle.logs.specs.Calls.{Reads}
 use Rattle.logs.specs.Laws.{Left, a_sheet, nothing, Gives}
 use Rattle.logs.proofs.Numbers.{InRange}
 
@@ -137,7 +137,7 @@ module _ (made : Made) (fair : Fair made) (s t : State) (p : ℕ) (buffer after 
         filled : part (64 + length_in bytes) (928 - length_in bytes) bytes ≡ zeros (928 - length_in bytes)
         filled = ap (λ k. part (64 + k) (928 - k) bytes) size ∙ (lies.filling_is ∙ ap (λ k. zeros (928 - k)) (sym length_ok))
 
-        tagged : tag_in bytes ≡ right_tag made s p
+        tagged : tag_in bytes ≡ right_tag made.forward made.key p bytes
         tagged = lies.tag_is ∙ sym (λ i. tag made.forward made.key (lies.nonce_is i) (associated p (lies.head_is i)) (text_ok i))
 
         written : bytes ≡ empty → ⊥

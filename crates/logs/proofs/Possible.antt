@@ -8,15 +8,16 @@ use Rattle.faults.specs.declared.ModeCause.TheVariants.{Slip}
 use Rattle.faults.specs.declared.ShelfCause.TheVariants.{Outside}
 use Rattle.faults.specs.declared.BoxCause.TheVariants.{Mode, Shelf, Length}
 use Rattle.faults.specs.declared.BoxFault.{BoxFault}
+use Rattle.faults.specs.Causes.{left}
 use Rattle.octets.specs.Octets.{zeros, part}
 use Rattle.modes.specs.Cascade.{ctr}
 use Rattle.modes.specs.Bytes.{padded}
 use Rattle.modes.specs.Short.{Holds, filled}
 use Rattle.shelf.specs.Meaning.{Meaning, Placed}
 use Rattle.sheets.specs.Records.{empty, number_in}
-use Rattle.sheets.specs.Sheets.{sheet, slip, nonce_in, length_in, text_in, tag_in, with_text}
+use Rattle.sheets.specs.Sheets.{sheet, slip, length_in, tag_in, right_tag, opened}
 use Rattle.logs.specs.States.{State, Made, last_number, count, without}
-use Rattle.logs.specs.Calls.{Draws, Seals, Slips, Voids, Clears, Reads, Unslips, Numbers, Done, refused, left, not_out, right_tag, draw_table, seal_table, slip_table, void_table, clear_table, read_table, unslip_table}
+use Rattle.logs.specs.Calls.{Draws, Seals, Slips, Voids, Clears, Reads, Unslips, Numbers, Done, refused, not_out, draw_table, seal_table, slip_table, void_table, clear_table, read_table, unslip_table}
 use Rattle.logs.specs.Laws.{AlwaysAnswerable}
 use Rattle.logs.proofs.Tables.{outcome, dec_not, dec_both, dec_true, dec_below}
 
@@ -122,10 +123,10 @@ module _ (made : Made) (s : State) where
   read_can p buffer =
       let bytes : List ℕ = s.shelf.bytes p in
       let n : ℕ = length_in bytes in
-      let opened : List ℕ = with_text (ctr made.forward made.key (nonce_in bytes) (text_in bytes)) bytes in
+      let whole : List ℕ = opened made.forward made.key bytes in
       let h = outcome (λ (x : Result (ℕ × ℕ) BoxFault × List ℕ) c. (x.0 ≡ refused (Some p) c) × (x.1 ≡ left c buffer))
-      (λ x. (x.0 ≡ Ok (number_in bytes, n)) × (x.1 ≡ opened))
-      (λ c. (refused (Some p) c, left c buffer)) (Ok (number_in bytes, n), opened)
+      (λ x. (x.0 ≡ Ok (number_in bytes, n)) × (x.1 ≡ whole))
+      (λ c. (refused (Some p) c, left c buffer)) (Ok (number_in bytes, n), whole)
       (λ c. (refl, refl)) (refl, refl)
       (read_table made s p buffer) (
         dec_not (ℕ_discrete (length buffer) 1024),
@@ -135,7 +136,7 @@ module _ (made : Made) (s : State) where
             same_list bytes empty,
             (
               dec_not (dec_both (dec_le n 928) (same_list (part (64 + n) (928 - n) bytes) (zeros (928 - n)))),
-              (dec_not (same_list (tag_in bytes) (right_tag made s p)), tt),
+              (dec_not (same_list (tag_in bytes) (right_tag made.forward made.key p bytes)), tt),
             ),
           ),
         ),

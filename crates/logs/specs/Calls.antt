@@ -1,27 +1,21 @@
 -- The calls of a box: the table of each, its answer, what its buffers hold after it, and what it makes of the box.
-use Rattle.std.specs.Prelude.{◌≡◌, ℕ, ◌+◌, ◌<◌, ◌≤◌, cond, List, [], ◌∷◌, ◌++◌, length, take, drop, Some, None, Ok, Err, Option, Result}
-use Rattle.faults.specs.Causes.{wipes}
+use Rattle.std.specs.Prelude.{◌≡◌, ℕ, ◌+◌, ◌<◌, ◌≤◌, List, [], ◌∷◌, ◌++◌, length, take, drop, Some, None, Ok, Err, Option, Result}
+use Rattle.faults.specs.Causes.{left}
 use Rattle.faults.specs.Tables.{Table, By, Not}
 use Rattle.faults.specs.declared.ModeCause.TheVariants.{Tag, Slip}
 use Rattle.faults.specs.declared.ShelfCause.TheVariants.{Outside, Shut}
 use Rattle.faults.specs.declared.BoxCause.{BoxCause}
 use Rattle.faults.specs.declared.BoxCause.TheVariants.{Mode, Shelf, Length, Limit, NotOut, UsedUp, SixteenOut, Empty, Filling}
 use Rattle.faults.specs.declared.BoxFault.{BoxFault}
-use Rattle.octets.specs.Octets.{zeros}
-use Rattle.modes.specs.Cascade.{ctr, tag}
 use Rattle.modes.specs.Short.{Holds, filled}
 use Rattle.shelf.specs.Meaning.{Open, Placed}
 use Rattle.sheets.specs.Records.{empty, number_in}
-use Rattle.sheets.specs.Sheets.{sheet, slip, associated, nonce_in, head_in, length_in, text_in, tag_in, WellFormed, with_text}
+use Rattle.sheets.specs.Sheets.{sheet, slip, length_in, tag_in, WellFormed, right_tag, opened}
 use Rattle.logs.specs.States.{Made, State, last_number, count, without}
 
 -- the answer of a call that is refused for a cause; calls on a place name it, the others name none
 abbrev pub refused : {A : Type 0} → (place : Option ℕ) → BoxCause → Result A BoxFault
 refused place cause = Err (record { cause = cause; place = place })
-
--- what a refusal leaves in a buffer
-abbrev pub left : BoxCause → List ℕ → List ℕ
-left cause buffer = cond (wipes cause) (zeros (length buffer)) buffer
 
 abbrev pub Done : Type 0
 Done = Result (Unit {0}) BoxFault
@@ -89,10 +83,6 @@ module _ (made : Made) (s : State) where
       By (clear_table place) (λ cause. (answer ≡ refused (Some place) cause) × (t ≡ s))
       ((answer ≡ Ok tt) × Placed s.shelf place empty t.shelf × (t.next ≡ s.next) × (t.out ≡ s.out))
 
-  -- the tag that the record at a place should have
-  abbrev pub right_tag : (place : ℕ) → List ℕ
-  right_tag place = tag made.forward made.key (nonce_in (at place)) (associated place (head_in (at place))) (text_in (at place))
-
   -- a read gives number and length, and leaves the record with the message in place of its ciphertext
   abbrev pub read_table : (place : ℕ) (buffer : List ℕ) → Table BoxCause
   read_table place buffer =
@@ -100,7 +90,7 @@ module _ (made : Made) (s : State) where
       ∷ (outside place, Shelf Outside)
       ∷ (at place ≡ empty, Empty)
       ∷ (Not (WellFormed (at place)), Filling)
-      ∷ (Not (tag_in (at place) ≡ right_tag place), Mode Tag)
+      ∷ (Not (tag_in (at place) ≡ right_tag made.forward made.key place (at place)), Mode Tag)
       ∷ []
 
   abbrev pub Reads : (place : ℕ) (buffer : List ℕ) (answer : Result (ℕ × ℕ) BoxFault) (buffer' : List ℕ) (t : State) → Type 0
@@ -108,7 +98,7 @@ module _ (made : Made) (s : State) where
       (t ≡ s)
       × By (read_table place buffer) (λ cause. (answer ≡ refused (Some place) cause) × (buffer' ≡ left cause buffer))
       ((answer ≡ Ok (number_in (at place), length_in (at place)))
-      × (buffer' ≡ with_text (ctr made.forward made.key (nonce_in (at place)) (text_in (at place))) (at place)))
+      × (buffer' ≡ opened made.forward made.key (at place)))
 
   -- an unslip gives the length of a slip's message, and leaves the message and zeros
   abbrev pub unslip_table : (bytes buffer : List ℕ) → Table BoxCause

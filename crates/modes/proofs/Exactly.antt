@@ -3,6 +3,8 @@ use Rattle.std.proofs.Common.{◌≡◌, ℕ, ◌<◌, List, length, Ok, Err, Re
 use Rattle.std.specs.Str.{bytes_eq}
 use Rattle.std.proofs.lemmas.Slice.Eq.{bytes_eq-Decides}
 use Rattle.std.proofs.lemmas.Bool.{cases_Bool, true≢false}
+use Rattle.faults.specs.declared.BoxCause.TheVariants.{Mode}
+use Rattle.faults.specs.Causes.{left}
 use Rattle.faults.specs.Tables.{Not, Clear}
 use Rattle.faults.specs.declared.ModeCause.{ModeCause}
 use Rattle.faults.specs.declared.ModeFault.{ModeFault}
@@ -10,7 +12,7 @@ use Rattle.faults.proofs.Results.{never_both}
 use Rattle.faults.proofs.Tables.{done_from_clear, done_when}
 use Rattle.saturnin.specs.Cube.{at}
 use Rattle.saturnin.specs.Meaning.{BlockFunction}
-use Rattle.modes.specs.Cascade.{open_table, left, Opens, ctr, tag}
+use Rattle.modes.specs.Cascade.{open_table, Opens, ctr, tag}
 use Rattle.modes.specs.Exact.{SealsTo, OpensExactly}
 use Rattle.modes.proofs.Streams.{length-ctr, ctr_twice}
 
@@ -29,7 +31,7 @@ module _ (f : BlockFunction) (key nonce associated text sign : List ℕ) where
   module _ (out : List ℕ) (answer : Result (Unit {0}) ModeFault) (out' : List ℕ) (small : (i : ℕ) → at out' i < 256)
       (opens : Opens f key nonce associated text sign out answer out') where
     refused : ModeCause → Type 0
-    refused cause = (answer ≡ Err (record { cause = cause })) × (out' ≡ left cause out)
+    refused cause = (answer ≡ Err (record { cause = cause })) × (out' ≡ left (Mode cause) out)
 
     done : Type 0
     done = (answer ≡ Ok tt) × (out' ≡ ctr f key nonce text)

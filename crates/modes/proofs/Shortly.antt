@@ -2,6 +2,8 @@
 use Rattle.std.proofs.Common.{◌≡◌, ℕ, ◌+◌, ◌-◌, ◌<◌, ◌≤◌, List, ◌++◌, length, get_or, take, drop, Ok, Err, Result, sym, refl, ap, ◌∙◌, inl, inr, arith, lit≤}
 use Rattle.std.proofs.lemmas.Bool.{cases_lt}
 use Rattle.std.proofs.lemmas.List.{length-append, take_at, drop_at, get_or-append_right, get_or_past}
+use Rattle.faults.specs.declared.BoxCause.TheVariants.{Mode}
+use Rattle.faults.specs.Causes.{left}
 use Rattle.faults.specs.Tables.{Clear}
 use Rattle.faults.specs.declared.ModeCause.{ModeCause}
 use Rattle.faults.specs.declared.ModeFault.{ModeFault}
@@ -9,7 +11,6 @@ use Rattle.faults.proofs.Results.{never_both}
 use Rattle.faults.proofs.Tables.{done_from_clear, done_when, stable_eq}
 use Rattle.saturnin.specs.Meaning.{BlockFunction, Takes, TwoWay}
 use Rattle.modes.specs.Bytes.{padded}
-use Rattle.modes.specs.Cascade.{left}
 use Rattle.modes.specs.Short.{short, short_open_table, Holds, filled, ShortOpens, ShortSealsTo, ShortOpensExactly}
 use Rattle.modes.proofs.Texts.{append-bytes, length-padded, padded_front, padded-here, padded_after, padded-bytes}
 use Rattle.octets.specs.Octets.{Octets}
@@ -54,7 +55,7 @@ module _ (f g : BlockFunction) (two_way : TwoWay f g) (key nonce block : List �
 
   module _ (out : List ℕ) (answer : Result ℕ ModeFault) (out' : List ℕ) (opens : ShortOpens g key nonce block out answer out') where
     refused : ModeCause → Type 0
-    refused cause = (answer ≡ Err (record { cause = cause })) × (out' ≡ left cause out)
+    refused cause = (answer ≡ Err (record { cause = cause })) × (out' ≡ left (Mode cause) out)
 
     done : Type 0
     done = (message : List ℕ) × Holds g key nonce block message × (answer ≡ Ok (length message)) × (out' ≡ filled message)

@@ -1,12 +1,13 @@
 -- CTR-Cascade: keystream, ciphertext, tag; the tables and results of sealing and opening.
 use Rattle.std.specs.Prelude.{◌≡◌, ℕ, ◌+◌, ◌/◌, ◌%◌, ◌≤◌, List, [], ◌∷◌, ◌++◌, length, Ok, Err, Result, bit_xor}
+use Rattle.faults.specs.Causes.{left}
 use Rattle.faults.specs.Tables.{Table, By, Not}
 use Rattle.faults.specs.declared.ModeCause.{ModeCause}
-use Rattle.faults.specs.declared.ModeCause.TheVariants.{Length, Limit, Parameter, Tag, Slip}
+use Rattle.faults.specs.declared.ModeCause.TheVariants.{Length, Limit, Tag}
+use Rattle.faults.specs.declared.BoxCause.TheVariants.{Mode}
 use Rattle.faults.specs.declared.ModeFault.{ModeFault}
 use Rattle.saturnin.specs.Cube.{at, table}
 use Rattle.saturnin.specs.Meaning.{BlockFunction}
-use Rattle.octets.specs.Octets.{zeros}
 use Rattle.modes.specs.Chains.{link, chain}
 use Rattle.modes.specs.Counters.{counter_block}
 
@@ -47,17 +48,9 @@ open_table f key nonce associated text sign out =
     seal_table (length key) (length nonce) (length associated) (length text) (length out) (length sign)
     ++ ((Not (sign ≡ tag f key nonce associated text), Tag) ∷ [])
 
--- what a refusal leaves in the buffer for a message: zeros where it was opened and is not right, else what it held
-abbrev pub left : ModeCause → List ℕ → List ℕ
-left Length buffer = buffer
-left Limit buffer = buffer
-left Parameter buffer = buffer
-left Tag buffer = zeros (length buffer)
-left Slip buffer = zeros (length buffer)
-
 -- an opening, by its answer and by what the buffer for the message holds after it
 abbrev pub Opens : BlockFunction → (key nonce associated text sign out : List ℕ) → Result (Unit {0}) ModeFault → (out' : List ℕ) → Type 0
 Opens f key nonce associated text sign out answer out' =
     By (open_table f key nonce associated text sign out)
-    (λ cause. (answer ≡ Err (record { cause = cause })) × (out' ≡ left cause out))
+    (λ cause. (answer ≡ Err (record { cause = cause })) × (out' ≡ left (Mode cause) out))
     ((answer ≡ Ok tt) × (out' ≡ ctr f key nonce text))

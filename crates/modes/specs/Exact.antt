@@ -1,14 +1,14 @@
 -- Opening exactly where sealing could have been.
-use Rattle.std.specs.Prelude.{◌≡◌, ℕ, ◌<◌, List, length, Ok, Result}
+use Rattle.std.specs.Prelude.{◌≡◌, ℕ, List, length, Ok, Result}
 use Rattle.faults.specs.Tables.{Clear}
 use Rattle.faults.specs.declared.ModeFault.{ModeFault}
-use Rattle.saturnin.specs.Cube.{at}
+use Rattle.octets.specs.Octets.{Octets}
 use Rattle.saturnin.specs.Meaning.{BlockFunction}
 use Rattle.modes.specs.Cascade.{seal_table, ctr, tag}
 
 -- sealing this message, into buffers of these lengths, is not refused and gives this text and this tag
 pub record SealsTo (f : BlockFunction) (key nonce associated message text sign : List ℕ) : Type 0 where
-  pub bytes : (i : ℕ) → at message i < 256
+  pub bytes : Octets message
   pub taken : Clear (seal_table (length key) (length nonce) (length associated) (length message) (length text) (length sign))
   pub text_is : text ≡ ctr f key nonce message
   pub sign_is : sign ≡ tag f key nonce associated text

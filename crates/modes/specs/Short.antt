@@ -1,14 +1,14 @@
 -- Short: its block, the tables and results of sealing and opening, and that opening is exact.
 use Rattle.std.specs.Prelude.{◌≡◌, ℕ, ◌-◌, ◌<◌, ◌≤◌, List, [], ◌∷◌, ◌++◌, length, Ok, Err, Result}
+use Rattle.faults.specs.Causes.{left}
 use Rattle.faults.specs.Tables.{Table, By, Not, Clear}
 use Rattle.faults.specs.declared.ModeCause.{ModeCause}
 use Rattle.faults.specs.declared.ModeCause.TheVariants.{Length, Limit, Slip}
+use Rattle.faults.specs.declared.BoxCause.TheVariants.{Mode}
 use Rattle.faults.specs.declared.ModeFault.{ModeFault}
-use Rattle.saturnin.specs.Cube.{at}
 use Rattle.saturnin.specs.Meaning.{BlockFunction}
-use Rattle.octets.specs.Octets.{zeros}
+use Rattle.octets.specs.Octets.{Octets, zeros}
 use Rattle.modes.specs.Bytes.{padded}
-use Rattle.modes.specs.Cascade.{left}
 
 -- a nonce of 16 bytes and the message, padded to 16, in one block by separator 6
 unfoldable pub short : BlockFunction → (key nonce message : List ℕ) → List ℕ
@@ -43,12 +43,12 @@ filled message = message ++ zeros (15 - length message)
 abbrev pub ShortOpens : BlockFunction → (key nonce block out : List ℕ) → Result ℕ ModeFault → (out' : List ℕ) → Type 0
 ShortOpens back key nonce block out answer out' =
     By (short_open_table back key nonce block out)
-    (λ cause. (answer ≡ Err (record { cause = cause })) × (out' ≡ left cause out))
+    (λ cause. (answer ≡ Err (record { cause = cause })) × (out' ≡ left (Mode cause) out))
     ((message : List ℕ) × Holds back key nonce block message × (answer ≡ Ok (length message)) × (out' ≡ filled message))
 
 -- sealing this message is not refused and gives this block
 pub record ShortSealsTo (f : BlockFunction) (key nonce message block : List ℕ) : Type 0 where
-  pub bytes : (i : ℕ) → at message i < 256
+  pub bytes : Octets message
   pub taken : Clear (short_table (length key) (length nonce) (length message) (length block))
   pub block_is : block ≡ short f key nonce message
 

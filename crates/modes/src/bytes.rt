@@ -11,7 +11,7 @@ pub(crate) fn xor(a: &[u8; 32], b: &[u8; 32]) -> [u8; 32]
     array::from_fn(|i| a[i] ^ b[i])
 }
 
-// Whether two blocks are the same. `==` would end at the first difference; by a rule of the project all bytes are looked at.
+// Whether two blocks are the same. `==` would end at the first difference; here all bytes are looked at.
 pub(crate) fn same(a: &[u8; 32], b: &[u8; 32]) -> bool
     ensures yes { T result → a.now ≡ b.now }
     ensures no { a.now ≡ b.now → T result }

@@ -42,7 +42,7 @@ pub(crate) fn has_gap(memory: &[u8]) -> bool
     (1..cells_in(memory.len())).any(|j| mark(memory, j - 1) == 0 && mark(memory, j) != 0)
 }
 
-// The last of the first n cells that has the mark of a place. By a rule of the project the search calls itself on the cells
+// The last of the first n cells that has the mark of a place. The search calls itself on the cells
 // before, and is no `rfind`.
 pub(crate) fn last_cell_of(memory: &[u8], place: u32, n: usize) -> Option<usize>
     requires { (n ≤ cells memory.now) × (place < 4096) }

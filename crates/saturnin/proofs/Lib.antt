@@ -1,5 +1,6 @@
 pub mod Bits
 pub mod Tables
+pub mod Places
 pub mod Numbers
 pub mod Clocks
 pub mod Matrix

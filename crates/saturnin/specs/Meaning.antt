@@ -1,9 +1,10 @@
 -- What a cipher is, and a two-way cipher.
-use Rattle.std.specs.Prelude.{◌≡◌, ℕ, ◌<◌, ◌≤◌, List, length, slice_index}
+use Rattle.std.specs.Prelude.{◌≡◌, ℕ, ◌≤◌, List, length}
+use Rattle.octets.specs.Octets.{Octets}
 
 -- so many bytes
 abbrev pub Bytes : ℕ → List ℕ → Type 0
-Bytes n bs = (length bs ≡ n) × ((i : ℕ) → slice_index bs i < 256)
+Bytes n bs = (length bs ≡ n) × Octets bs
 
 -- a function from key, separator, count of super-rounds and block to block
 abbrev pub BlockFunction : Type 0

@@ -2,11 +2,15 @@
 use Rattle.std.proofs.Common.{◌≡◌, ℕ, zero, suc, ◌+◌, ◌*◌, ◌/◌, ◌%◌, ◌^◌, ◌<◌, ◌≤◌, List, [], ◌∷◌, ◌∙◌, mul_comm, pow-suc, add-one, arith, pow_mono, shl_exact}
 use Rattle.std.specs.Int.{to_le_bytes, w16}
 use Rattle.saturnin.specs.Bits.{bit, number}
-use Rattle.saturnin.specs.Cube.{at, table, register, to_cube, cube_register, from_cube}
+use Rattle.saturnin.specs.Cube.{Cube, cube, at, table, register, to_cube, cube_register, from_cube}
 use Rattle.saturnin.proofs.Bits.{bit_lt}
 use Rattle.saturnin.proofs.Tables.{at_table, same_table}
 use Rattle.saturnin.proofs.Numbers.{weighed_lt, number_lt}
-use Rattle.saturnin_cube.specs.Parts.{nibble_in, unpacked}
+use Rattle.saturnin_cube.specs.Parts.{nibble_in}
+
+-- the cube of sixteen registers
+unfoldable pub unpacked : (registers : List ℕ) → Cube
+unpacked registers = cube (λ i. nibble_in registers (i / 4) (i % 4))
 
 -- the cube of the registers of 32 bytes
 pub unpacked_registers : (bytes : List ℕ) → unpacked (table 16 (register bytes)) ≡ to_cube bytes

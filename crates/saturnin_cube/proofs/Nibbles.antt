@@ -59,10 +59,6 @@ columns F c d each = is_rows d (λ b y. F y (at (nibbles c) (4 * b)) (at (nibble
 pub taken : (r : Row) (y : ℕ) {n : Nibble} → n ≡ get_or r.nibbles y n → y < 4 → n.value ≡ of_row r y
 taken r y {n} e l = ap (λ (n : Nibble). n.value) e ∙ nibble_is r y n l
 
--- the nibbles that a shift takes, by a turn
-pub same_places : (s : List ℕ) (f g : ℕ → ℕ) → T (below (λ i. eqb (f i) (g i)) 64) → cube (λ i. at s (f i)) ≡ cube (λ i. at s (g i))
-same_places s f g t = same_table 64 _ _ (λ i h. ap (at s) (same_below f g 64 t i h))
-
 -- a cube with one function at even y and another at odd y
 pub boxes : (even odd : ℕ → ℕ) (c d : Cube)
     → ((b : ℕ) (r : Row) → b < 16 → IsRow (get_or d.rows b r) (λ y. let n : ℕ = of_row (get_or c.rows b r) y in cond (y % 2 == 0) (even n) (odd n)))

@@ -7,11 +7,8 @@ use Rattle.saturnin.specs.Cube.{Cube, cube, at, index, x_of, y_of, z_of}
 abbrev pub turned_from : (X Z i : ℕ) → ℕ
 turned_from X Z i = index ((x_of i + X * y_of i) % 4) (y_of i) ((z_of i + Z * y_of i) % 4)
 
--- nibble y of row b of sixteen registers, and the whole cube
+-- nibble y of row b of sixteen registers
 unfoldable pub nibble_in : (registers : List ℕ) (b y : ℕ) → ℕ
 nibble_in registers b y =
     let bit_of : ℕ → ℕ = λ k. bit (at registers (4 * y + k)) b in
     nibble (bit_of 0) (bit_of 1) (bit_of 2) (bit_of 3)
-
-unfoldable pub unpacked : (registers : List ℕ) → Cube
-unpacked registers = cube (λ i. nibble_in registers (i / 4) (i % 4))

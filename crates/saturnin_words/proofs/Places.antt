@@ -7,7 +7,7 @@ use Rattle.saturnin.specs.Cube.{at, cube}
 use Rattle.saturnin.specs.Layers.{add}
 use Rattle.saturnin.proofs.Bits.{below, same_below}
 use Rattle.saturnin.proofs.Tables.{at_table, same_table}
-use Rattle.saturnin_words.specs.Words.{across, quad, bit_of, cube_of, in_row, in_word, in_cube}
+use Rattle.saturnin_words.specs.Words.{across, quad, stands_at, cube_of, in_row, in_word, in_cube}
 use Rattle.saturnin_words.specs.declared.quad.Quad.{Quad}
 use Rattle.saturnin_words.specs.declared.state.State.{State}
 
@@ -15,11 +15,11 @@ use Rattle.saturnin_words.specs.declared.state.State.{State}
 abbrev pub read : State → (m p : ℕ) → ℕ
 read w m p = cond (eqb m 0) (quad w.even p) (quad w.odd p)
 
-pub at-cube_of : (w : State) (i : ℕ) → i < 64 → at (cube_of w) i ≡ read w (i % 2) (bit_of i)
+pub at-cube_of : (w : State) (i : ℕ) → i < 64 → at (cube_of w) i ≡ read w (i % 2) (stands_at i)
 unfolding cube_of
-at-cube_of w i h = at_table 64 (λ i. read w (i % 2) (bit_of i)) i h
+at-cube_of w i h = at_table 64 (λ i. read w (i % 2) (stands_at i)) i h
 
-pub at_place : (w : State) (i m p : ℕ) → i < 64 → i % 2 ≡ m → bit_of i ≡ p → at (cube_of w) i ≡ read w m p
+pub at_place : (w : State) (i m p : ℕ) → i < 64 → i % 2 ≡ m → stands_at i ≡ p → at (cube_of w) i ≡ read w m p
 at_place w i m p h e f = at-cube_of w i h ∙ ap₂ (read w) e f
 
 -- a cube in the words is what it is row by row: row y of column b
@@ -52,7 +52,7 @@ column G w b h =
 pub mapped : (f g : ℕ → ℕ) (r w : State) → ((p : ℕ) → quad r.even p ≡ f (quad w.even p)) → ((p : ℕ) → quad r.odd p ≡ g (quad w.odd p))
     → cube_of r ≡ cube (λ i. cond (eqb (i % 2) 0) (f (at (cube_of w) i)) (g (at (cube_of w) i)))
 unfolding cube_of
-mapped f g r w e o = same_table 64 _ _ (λ i h. pick (eqb (i % 2) 0) _ _ _ _ _ (at-cube_of w i h) (e (bit_of i)) (o (bit_of i)))
+mapped f g r w e o = same_table 64 _ _ (λ i h. pick (eqb (i % 2) 0) _ _ _ _ _ (at-cube_of w i h) (e (stands_at i)) (o (stands_at i)))
   where
     pick : (b : Bool) (x y x' y' n : ℕ) → n ≡ cond b x y → x' ≡ f x → y' ≡ g y → cond b x' y' ≡ cond b (f n) (g n)
     pick true x y x' y' n e h k = h ∙ ap f (sym e)
@@ -64,7 +64,7 @@ pub added : (r k w : State) → ((p : ℕ) → quad r.even p ≡ bit_xor (quad w
 unfolding cube_of add
 added r k w e o =
     same_table 64 _ _ (λ i h.
-    pick (eqb (i % 2) 0) _ _ _ _ _ _ (e (bit_of i)) (o (bit_of i)) ∙ ap₂ bit_xor (sym (at-cube_of w i h)) (sym (at-cube_of k i h)))
+    pick (eqb (i % 2) 0) _ _ _ _ _ _ (e (stands_at i)) (o (stands_at i)) ∙ ap₂ bit_xor (sym (at-cube_of w i h)) (sym (at-cube_of k i h)))
   where
     pick : (b : Bool) (x y k l x' y' : ℕ) → x' ≡ bit_xor x k → y' ≡ bit_xor y l → cond b x' y' ≡ bit_xor (cond b x y) (cond b k l)
     pick true x y k l x' y' e f = e
@@ -100,7 +100,3 @@ rows_turned r w W y0 y1 y2 y3 wide e o =
 
     high : (l h b : ℕ) → b < 16 → in_word W l h (b + 16) ≡ 16 + in_row W h b
     high l h b k = rw (le-ltb (b + 16) 16 (omega arith)) (ap (λ b. 16 + in_row W h b) (omega arith))
-
--- nibbles from the same places
-pub same_places : (s : List ℕ) (f g : ℕ → ℕ) → T (below (λ i. eqb (f i) (g i)) 64) → cube (λ i. at s (f i)) ≡ cube (λ i. at s (g i))
-same_places s f g t = same_table 64 _ _ (λ i h. ap (at s) (same_below f g 64 t i h))

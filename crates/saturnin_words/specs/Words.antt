@@ -14,11 +14,11 @@ abbrev pub quad : Quad → (p : ℕ) → ℕ
 quad q p = across q.a q.b q.c q.d p
 
 -- the bit at which nibble i stands: rows 0 and 1 in the lower halves, rows 2 and 3 in the upper ones
-abbrev pub bit_of : (i : ℕ) → ℕ
-bit_of i = i / 4 + 16 * (i % 4 / 2)
+abbrev pub stands_at : (i : ℕ) → ℕ
+stands_at i = i / 4 + 16 * (i % 4 / 2)
 
 unfoldable pub cube_of : State → Cube
-cube_of w = cube (λ i. cond (i % 2 == 0) (quad w.even (bit_of i)) (quad w.odd (bit_of i)))
+cube_of w = cube (λ i. cond (i % 2 == 0) (quad w.even (stands_at i)) (quad w.odd (stands_at i)))
 
 -- where a row whose bits turn so many places up, in groups of `width`, takes its bit b from
 abbrev pub in_row : (width places b : ℕ) → ℕ

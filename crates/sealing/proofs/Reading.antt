@@ -2,7 +2,8 @@
 use Rattle.std.proofs.Common.{◌≡◌, ℕ, ◌+◌, ◌-◌, List, ◌++◌, length, take, drop, None, Ok, Err, Result, sym, ap, ◌∙◌, ap₂, arith}
 use mathlib.Core.Path.{transport}
 use Rattle.std.proofs.lemmas.List.{length-take, length-drop, length-append, take_all}
-use Rattle.faults.specs.Causes.{from_mode}
+use Rattle.faults.specs.declared.BoxCause.TheVariants.{Mode}
+use Rattle.faults.specs.Causes.{from_mode, left}
 use Rattle.faults.specs.Tables.{Table, By, Not}
 use Rattle.faults.specs.declared.ModeCause.TheVariants.{Tag}
 use Rattle.faults.specs.declared.ModeFault.{ModeFault}
@@ -14,11 +15,11 @@ use Rattle.sealing.specs.declared.found.Found.{Found}
 use Rattle.octets.specs.Octets.{part, written, big_endian}
 use Rattle.modes.proofs.Counting.{length-big_endian}
 use Rattle.saturnin.specs.Meaning.{BlockFunction}
-use Rattle.modes.specs.Cascade.{ctr, left, Opens}
+use Rattle.modes.specs.Cascade.{ctr, Opens}
 use Rattle.modes.proofs.Streams.{length-ctr}
 use Rattle.sheets.specs.Records.{empty}
-use Rattle.sheets.specs.Sheets.{associated, nonce_in, head_in, length_in, text_in, tag_in, WellFormed}
-use Rattle.sealing.specs.Sealing.{right_tag, open_sheet_table, message_in}
+use Rattle.sheets.specs.Sheets.{associated, nonce_in, head_in, length_in, text_in, tag_in, WellFormed, right_tag, message_in}
+use Rattle.sealing.specs.Sealing.{open_sheet_table}
 
 module _ (f : BlockFunction) (key : List ℕ) (place : ℕ) (bytes : List ℕ) (n : ℕ) (kl : length key ≡ 32) (long : length bytes ≡ 1024) (is : n ≡ length_in bytes)
     (there : Not (bytes ≡ empty)) (formed : WellFormed bytes) (data' out out' : List ℕ) (answer : Result (Unit {0}) ModeFault)
@@ -39,7 +40,7 @@ module _ (f : BlockFunction) (key : List ℕ) (place : ℕ) (bytes : List ℕ) (
     text_long : length (text_in bytes) ≡ n
     text_long = simp (length-take, length-drop) (omega (arith, formed.0, is))
 
-    rest : (Not (tag_in bytes ≡ right_tag f key place bytes) → (answer ≡ Err (record { cause = Tag })) × (out' ≡ left Tag out))
+    rest : (Not (tag_in bytes ≡ right_tag f key place bytes) → (answer ≡ Err (record { cause = Tag })) × (out' ≡ left (Mode Tag) out))
         × (Not (Not (tag_in bytes ≡ right_tag f key place bytes)) → (answer ≡ Ok tt) × (out' ≡ ctr f key (nonce_in bytes) (text_in bytes)))
     rest = (same.1 (λ k. k (kl, ol ∙ sym text_long, simp length-drop (omega arith)))).1 (λ k. k (simp length-take (omega arith), omega (arith, data_long), omega (arith, text_long, is, formed.0)))
 

@@ -8,9 +8,8 @@ use Rattle.faults.specs.declared.BoxCause.{BoxCause}
 use Rattle.faults.specs.declared.BoxCause.TheVariants.{Mode, Empty, Filling}
 use Rattle.faults.specs.declared.BoxFault.{BoxFault}
 use Rattle.saturnin.specs.Meaning.{BlockFunction}
-use Rattle.modes.specs.Cascade.{ctr, tag}
 use Rattle.sheets.specs.Records.{empty, number_in}
-use Rattle.sheets.specs.Sheets.{sealed, associated, nonce_in, head_in, length_in, text_in, tag_in, WellFormed, with_text}
+use Rattle.sheets.specs.Sheets.{sealed, length_in, tag_in, WellFormed, right_tag, opened}
 use Rattle.sealing.specs.declared.found.Found.{Found}
 
 abbrev pub seal_sheet_table : (message : List ℕ) → Table ModeCause
@@ -22,23 +21,12 @@ SealsSheet f key nonce place label message bytes answer bytes' =
     (λ cause. (answer ≡ Err (record { cause = cause })) × (bytes' ≡ bytes))
     ((answer ≡ Ok tt) × (bytes' ≡ sealed f key nonce place label message))
 
--- the tag that a record at a place should have
-abbrev pub right_tag : BlockFunction → (key : List ℕ) (place : ℕ) (bytes : List ℕ) → List ℕ
-right_tag f key place bytes = tag f key (nonce_in bytes) (associated place (head_in bytes)) (text_in bytes)
-
 -- whether there is a record of the right form, and then whether its tag is the right one
 abbrev pub form_table : (bytes : List ℕ) → Table BoxCause
 form_table bytes = (bytes ≡ empty, Empty) ∷ (Not (WellFormed bytes), Filling) ∷ []
 
 abbrev pub open_sheet_table : BlockFunction → (key : List ℕ) (place : ℕ) (bytes : List ℕ) → Table BoxCause
 open_sheet_table f key place bytes = form_table bytes ++ ((Not (tag_in bytes ≡ right_tag f key place bytes), Mode Tag) ∷ [])
-
--- the message of a record, and what an opened record holds: the message in place of its ciphertext
-abbrev pub message_in : BlockFunction → (key bytes : List ℕ) → List ℕ
-message_in f key bytes = ctr f key (nonce_in bytes) (text_in bytes)
-
-abbrev pub opened : BlockFunction → (key bytes : List ℕ) → List ℕ
-opened f key bytes = with_text (message_in f key bytes) bytes
 
 abbrev pub OpensSheet : BlockFunction → (key : List ℕ) (place : ℕ) (bytes : List ℕ) → Result Found BoxFault → (bytes' : List ℕ) → Type 0
 OpensSheet f key place bytes answer bytes' =

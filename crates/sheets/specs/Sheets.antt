@@ -58,3 +58,15 @@ WellFormed bytes = (length_in bytes ≤ 928) × (part (64 + length_in bytes) (92
 -- a record with the text in place of its own
 abbrev pub with_text : (text bytes : List ℕ) → List ℕ
 with_text text bytes = take 64 bytes ++ (text ++ drop (64 + length_in bytes) bytes)
+
+module _ (f : BlockFunction) (key : List ℕ) where
+  -- the tag that a record at a place should have
+  abbrev pub right_tag : (place : ℕ) (bytes : List ℕ) → List ℕ
+  right_tag place bytes = tag f key (nonce_in bytes) (associated place (head_in bytes)) (text_in bytes)
+
+  -- the message of a record, and what an opened record holds: the message in place of its ciphertext
+  abbrev pub message_in : (bytes : List ℕ) → List ℕ
+  message_in bytes = ctr f key (nonce_in bytes) (text_in bytes)
+
+  abbrev pub opened : (bytes : List ℕ) → List ℕ
+  opened bytes = with_text (message_in bytes) bytes

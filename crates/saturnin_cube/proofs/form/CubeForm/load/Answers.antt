@@ -1,6 +1,6 @@
 use Rattle.std.proofs.Common.{rules, ap, ◌∙◌}
-use Rattle.saturnin_cube.specs.Parts.{unpacked, nibble_in}
-use Rattle.saturnin_cube.proofs.Loads.{unpacked_registers}
+use Rattle.saturnin_cube.specs.Parts.{nibble_in}
+use Rattle.saturnin_cube.proofs.Loads.{unpacked, unpacked_registers}
 use Rattle.saturnin_cube.proofs.Made.{made_rows}
 use Rattle.saturnin_cube.proofs.form.CubeForm.load.Goals as goal
 

@@ -1,6 +1,6 @@
 use Rattle.std.proofs.Common.{◌∙◌}
 use Rattle.saturnin.specs.Layers.{sheet_from, SR_sheet}
-use Rattle.saturnin_cube.proofs.Nibbles.{same_places}
+use Rattle.saturnin.proofs.Places.{same_places}
 use Rattle.saturnin_cube.proofs.form.CubeForm.sheets.Goals as goal
 
 pub returns : goal.returns

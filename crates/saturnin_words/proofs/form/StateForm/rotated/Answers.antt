@@ -1,7 +1,7 @@
 use Rattle.std.proofs.Common.{◌∙◌}
 use Rattle.std.proofs.Common.{◌+◌, ◌%◌}
 use Rattle.saturnin.specs.Rounds.{rotated}
-use Rattle.saturnin_words.proofs.Places.{same_places}
+use Rattle.saturnin.proofs.Places.{same_places}
 use Rattle.saturnin_words.proofs.form.StateForm.rotated.Goals as goal
 
 pub returns : goal.returns

@@ -1,7 +1,7 @@
 use Rattle.std.proofs.Common.{◌∙◌}
 use Rattle.saturnin.specs.Layers.{sheet_to}
 use Rattle.saturnin.specs.Layers.{SR_sheet⁻¹}
-use Rattle.saturnin_words.proofs.Places.{same_places}
+use Rattle.saturnin.proofs.Places.{same_places}
 use Rattle.saturnin_words.proofs.form.StateForm.sheets_back.Goals as goal
 
 pub returns : goal.returns
