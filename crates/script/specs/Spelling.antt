@@ -1,6 +1,6 @@
 -- The lines that calls are spelt by: the name of a call first, and the rest after it.
-use Rattle.std.specs.Prelude.{◌≡◌, ◌≢◌, ℕ, List, [], codes}
-use Rattle.script.specs.Words.{first_word, after_word, without_blanks, Numeral}
+use Rattle.std.specs.Prelude.{◌≡◌, ℕ, List, [], codes}
+use Rattle.script.specs.Words.{first_word, after_word, without_blanks, IsText, Only, Numeral, OnlyNumeral}
 use Rattle.script.specs.Messages.{SpellsMessage}
 use Rattle.script.specs.declared.box_calls.BoxCall.{BoxCall}
 use Rattle.script.specs.declared.box_calls.BoxCall.TheVariants.{Draw, Seal, Slip, Void, Clear, Unslip, Number, Save}
@@ -10,21 +10,13 @@ use Rattle.script.specs.declared.settings.CipherForm.TheVariants.{Cube, Words}
 use Rattle.script.specs.declared.settings.Setting.{Setting}
 use Rattle.script.specs.declared.settings.Setting.TheVariants.{Key, Form, Tray, Plate}
 
--- a text of one word, which is this one
-abbrev pub Only : (text word : List ℕ) → Type 0
-Only text word = (first_word text ≡ word) × (word ≢ []) × (after_word text ≡ [])
-
--- a text of one word, which spells this number
-abbrev pub OnlyNumeral : (bits : ℕ) (text : List ℕ) (n : ℕ) → Type 0
-OnlyNumeral bits text n = Numeral bits (first_word text) n × (after_word text ≡ [])
-
 abbrev pub SpellsSetting : (name rest : List ℕ) → Setting → Type 0
 SpellsSetting name rest (Key file) = (name ≡ codes "key") × Only rest file.now
 SpellsSetting name rest (Form Cube) = (name ≡ codes "form") × Only rest (codes "cube")
 SpellsSetting name rest (Form Words) = (name ≡ codes "form") × Only rest (codes "words")
 SpellsSetting name rest (Tray file) = (name ≡ codes "tray") × Only rest file.now
 SpellsSetting name rest (Plate file places) =
-    (name ≡ codes "plate") × (first_word rest ≡ file.now) × (file.now ≢ []) × OnlyNumeral 32 (after_word rest) places
+    (name ≡ codes "plate") × (first_word rest ≡ file.now) × IsText file.now × OnlyNumeral 32 (after_word rest) places
 
 abbrev pub SpellsBoxCall : (name rest : List ℕ) → BoxCall → Type 0
 SpellsBoxCall name rest Draw = (name ≡ codes "draw") × (rest ≡ [])
@@ -48,7 +40,7 @@ SpellsBoxCall name rest (Save file) = (name ≡ codes "save") × Only rest file.
 abbrev pub SpellsAfter : (name rest : List ℕ) → Call → Type 0
 SpellsAfter name rest (Set setting) = SpellsSetting name rest setting
 SpellsAfter name rest (Make sign first) =
-    (name ≡ codes "make") × (first_word rest ≡ sign.now) × (sign.now ≢ []) × OnlyNumeral 64 (after_word rest) first
+    (name ≡ codes "make") × (first_word rest ≡ sign.now) × IsText sign.now × OnlyNumeral 64 (after_word rest) first
 SpellsAfter name rest (Read place) = (name ≡ codes "read") × OnlyNumeral 32 rest place
 SpellsAfter name rest (Ask call) = SpellsBoxCall name rest call
 

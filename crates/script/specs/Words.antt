@@ -1,5 +1,5 @@
 -- The words of a line, which blanks part, and the numbers that words spell.
-use Rattle.std.specs.Prelude.{◌≡◌, ℕ, ◌<◌, ◌^◌, ◌==◌, ◌||◌, Bool, not, List, length, take, drop, position}
+use Rattle.std.specs.Prelude.{◌≡◌, ◌≢◌, ℕ, ◌<◌, ◌^◌, ◌==◌, ◌||◌, Bool, not, List, [], length, take, drop, position, Option, Some, None, IsUtf8}
 use Rattle.std.specs.Str.Parse.{IsNumeral, digits_value, without_leading_plus}
 use Rattle.std.specs.Option.{unwrap_or}
 
@@ -33,3 +33,20 @@ Numeral bits word n =
     IsNumeral 10 (without_leading_plus word)
     × (digits_value 10 (without_leading_plus word) ≡ n)
     × (n < 2 ^ bits)
+
+-- a word that is text, and so no bytes other than those of characters
+abbrev pub IsText : (word : List ℕ) → Type 0
+IsText word = (word ≢ []) × IsUtf8 word
+
+-- a text of one word, which is this one
+abbrev pub Only : (text word : List ℕ) → Type 0
+Only text word = (first_word text ≡ word) × IsText word × (after_word text ≡ [])
+
+-- a text of one word, which spells this number
+abbrev pub OnlyNumeral : (bits : ℕ) (text : List ℕ) (n : ℕ) → Type 0
+OnlyNumeral bits text n = Numeral bits (first_word text) n × (after_word text ≡ [])
+
+-- what is read: something that is spelt so, or nothing where nothing is spelt so
+abbrev pub Reads : {A : Type 0} → (spells : A → Type 0) → Option A → Type 0
+Reads spells (Some a) = spells a
+Reads {A} spells None = (a : A) → ¬ (spells a)

@@ -1,8 +1,9 @@
-ghost use Rattle.std.specs.Prelude.{IfSome, codes};
+ghost use Rattle.std.specs.Prelude.{codes};
 ghost use Rattle.script.specs.Spelling.{SpellsBoxCall};
+ghost use Rattle.script.specs.Words.{Reads};
 
 use crate::messages::Message;
-use crate::words::{number_in, only, place_in, split_number, split_place, split_word, text_of};
+use crate::words::{only_number, only_place, only_text, split_number, split_place, split_word};
 
 // A call on a box, other than a read.
 #[derive(Clone, Copy)]
@@ -37,27 +38,33 @@ pub enum BoxCall<'a> {
 
 impl<'a> BoxCall<'a> {
     pub(crate) fn of(name: &str, rest: &'a [u8]) -> Option<BoxCall<'a>>
-        ensures { IfSome result (SpellsBoxCall name.now rest.now) }
+        ensures { Reads (SpellsBoxCall name.now rest.now) result }
     {
         match name {
             "draw" => rest.is_empty().then_some(BoxCall::Draw),
             "seal" => BoxCall::of_seal(rest),
             "slip" => BoxCall::of_slip(rest),
             "void" => Some(BoxCall::Void {
-                number: number_in(only(rest)?)?,
+                number: only_number(rest)?,
             }),
             "unslip" => Some(BoxCall::Unslip {
-                digits: text_of(only(rest)?)?,
+                digits: only_text(rest)?,
             }),
             "save" => Some(BoxCall::Save {
-                file: text_of(only(rest)?)?,
+                file: only_text(rest)?,
             }),
-            _ => BoxCall::of_place(name, rest),
+            "clear" => Some(BoxCall::Clear {
+                place: only_place(rest)?,
+            }),
+            "number" => Some(BoxCall::Number {
+                place: only_place(rest)?,
+            }),
+            _ => None,
         }
     }
 
     fn of_seal(rest: &'a [u8]) -> Option<BoxCall<'a>>
-        ensures { IfSome result (SpellsBoxCall (codes "seal") rest.now) }
+        ensures { Reads (SpellsBoxCall (codes "seal") rest.now) result }
     {
         let (number, rest) = split_number(rest)?;
         let (place, rest) = split_place(rest)?;
@@ -71,24 +78,12 @@ impl<'a> BoxCall<'a> {
     }
 
     fn of_slip(rest: &'a [u8]) -> Option<BoxCall<'a>>
-        ensures { IfSome result (SpellsBoxCall (codes "slip") rest.now) }
+        ensures { Reads (SpellsBoxCall (codes "slip") rest.now) result }
     {
         let (number, message) = split_number(rest)?;
         Some(BoxCall::Slip {
             number,
             message: Message::of(message)?,
         })
-    }
-
-    // The calls on a place alone.
-    fn of_place(name: &str, rest: &'a [u8]) -> Option<BoxCall<'a>>
-        ensures { IfSome result (SpellsBoxCall name.now rest.now) }
-    {
-        let place = place_in(only(rest)?)?;
-        match name {
-            "clear" => Some(BoxCall::Clear { place }),
-            "number" => Some(BoxCall::Number { place }),
-            _ => None,
-        }
     }
 }

@@ -1,9 +1,10 @@
-ghost use Rattle.std.specs.Prelude.{IfSome, codes};
+ghost use Rattle.std.specs.Prelude.{codes};
 ghost use Rattle.script.specs.Spelling.{Spells, SpellsAfter};
+ghost use Rattle.script.specs.Words.{Reads};
 
 use crate::box_calls::BoxCall;
 use crate::settings::Setting;
-use crate::words::{number_in, only, place_in, split_word, text_of, without_blanks};
+use crate::words::{only_number, only_place, split_word, text_of, without_blanks};
 
 // What a line of a script calls for.
 #[derive(Clone, Copy)]
@@ -19,19 +20,19 @@ pub enum Call<'a> {
 impl<'a> Call<'a> {
     // The call that a line is, if it is one.
     pub fn of(line: &'a [u8]) -> Option<Call<'a>>
-        ensures { IfSome result (Spells line.now) }
+        ensures { Reads (Spells line.now) result }
     {
         let (name, rest) = split_word(without_blanks(line));
         Call::named(text_of(name)?, rest)
     }
 
     fn named(name: &str, rest: &'a [u8]) -> Option<Call<'a>>
-        ensures { IfSome result (SpellsAfter name.now rest.now) }
+        ensures { Reads (SpellsAfter name.now rest.now) result }
     {
         match name {
             "make" => Call::of_make(rest),
             "read" => Some(Call::Read {
-                place: place_in(only(rest)?)?,
+                place: only_place(rest)?,
             }),
             "key" | "form" | "tray" | "plate" => Some(Call::Set(Setting::of(name, rest)?)),
             _ => Some(Call::Ask(BoxCall::of(name, rest)?)),
@@ -39,12 +40,12 @@ impl<'a> Call<'a> {
     }
 
     fn of_make(rest: &'a [u8]) -> Option<Call<'a>>
-        ensures { IfSome result (SpellsAfter (codes "make") rest.now) }
+        ensures { Reads (SpellsAfter (codes "make") rest.now) result }
     {
         let (sign, first) = split_word(rest);
         Some(Call::Make {
             sign: text_of(sign)?,
-            first: number_in(only(first)?)?,
+            first: only_number(first)?,
         })
     }
 }

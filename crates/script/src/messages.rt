@@ -1,7 +1,8 @@
-ghost use Rattle.std.specs.Prelude.{◌≡◌, IfOk, IfSome};
-ghost use Rattle.script.specs.Messages.{SpellsMessage, bytes_of};
+ghost use Rattle.std.specs.Prelude.{◌≡◌, ℕ, List, IfOk, MatchOption};
+ghost use Rattle.script.specs.Messages.{SpellsMessage, Starred, bytes_of};
+ghost use Rattle.script.specs.Words.{Reads};
 
-use crate::words::count_in;
+use crate::words::{count_in, is_numeral};
 use std::alloc::{AllocError, Global};
 
 // A message as a line has it.
@@ -15,14 +16,14 @@ pub enum Message<'a> {
 impl<'a> Message<'a> {
     // `-` is a message of no bytes, and `*` with a count one of so many bytes 'x'; another text stands for its bytes.
     pub(crate) fn of(text: &'a [u8]) -> Option<Message<'a>>
-        ensures { IfSome result (SpellsMessage text.now) }
+        ensures { Reads (SpellsMessage text.now) result }
     {
+        if let Some(digits) = starred(text) {
+            return Some(Message::Many(count_in(digits)?));
+        }
         match text {
             [] => None,
             b"-" => Some(Message::Written(&[])),
-            [b'*', count @ ..] if !count.is_empty() && count.iter().all(|b| b.is_ascii_digit()) => {
-                Some(Message::Many(count_in(count)?))
-            }
             _ => Some(Message::Written(text)),
         }
     }
@@ -35,5 +36,15 @@ impl<'a> Message<'a> {
             Message::Written(text) => text.to_vec(heap),
             Message::Many(n) => vec![in heap; b'x'; n as usize],
         }
+    }
+}
+
+// The digits of a text that is a star with a count.
+fn starred(text: &[u8]) -> Option<&[u8]>
+    ensures { MatchOption result ((digits : List ℕ) → ¬ (Starred text.now digits)) (λ digits. Starred text.now digits.now) }
+{
+    match text {
+        [b'*', digits @ ..] if is_numeral(digits) => Some(digits),
+        _ => None,
     }
 }

@@ -1,7 +1,8 @@
-ghost use Rattle.std.specs.Prelude.{IfSome, codes};
+ghost use Rattle.std.specs.Prelude.{codes};
 ghost use Rattle.script.specs.Spelling.{SpellsSetting};
+ghost use Rattle.script.specs.Words.{Reads};
 
-use crate::words::{only, place_in, split_word, text_of};
+use crate::words::{only_place, only_text, split_word, text_of};
 
 // The forms of the cipher.
 #[derive(Clone, Copy)]
@@ -21,15 +22,15 @@ pub enum Setting<'a> {
 
 impl<'a> Setting<'a> {
     pub(crate) fn of(name: &str, rest: &'a [u8]) -> Option<Setting<'a>>
-        ensures { IfSome result (SpellsSetting name.now rest.now) }
+        ensures { Reads (SpellsSetting name.now rest.now) result }
     {
         match name {
             "key" => Some(Setting::Key {
-                file: text_of(only(rest)?)?,
+                file: only_text(rest)?,
             }),
             "form" => Setting::of_form(rest),
             "tray" => Some(Setting::Tray {
-                file: text_of(only(rest)?)?,
+                file: only_text(rest)?,
             }),
             "plate" => Setting::of_plate(rest),
             _ => None,
@@ -37,9 +38,9 @@ impl<'a> Setting<'a> {
     }
 
     fn of_form(rest: &[u8]) -> Option<Setting<'a>>
-        ensures { IfSome result (SpellsSetting (codes "form") rest.now) }
+        ensures { Reads (SpellsSetting (codes "form") rest.now) result }
     {
-        match text_of(only(rest)?)? {
+        match only_text(rest)? {
             "cube" => Some(Setting::Form(CipherForm::Cube)),
             "words" => Some(Setting::Form(CipherForm::Words)),
             _ => None,
@@ -47,12 +48,12 @@ impl<'a> Setting<'a> {
     }
 
     fn of_plate(rest: &'a [u8]) -> Option<Setting<'a>>
-        ensures { IfSome result (SpellsSetting (codes "plate") rest.now) }
+        ensures { Reads (SpellsSetting (codes "plate") rest.now) result }
     {
         let (file, rest) = split_word(rest);
         Some(Setting::Plate {
             file: text_of(file)?,
-            places: place_in(only(rest)?)?,
+            places: only_place(rest)?,
         })
     }
 }

@@ -1,5 +1,8 @@
-ghost use Rattle.std.specs.Prelude.{◌≡◌, ◌≢◌, ◌≤◌, ◌<◌, length, not, position, IfSome, []};
-ghost use Rattle.script.specs.Words.{is_blank as blank, end_of_word, start_of_word, first_word, after_word, without_blanks as bare, Numeral};
+ghost use Rattle.std.specs.Prelude.{◌↔◌, ◌≡◌, ◌≢◌, ℕ, List, ◌≤◌, ◌<◌, length, not, position, IfSome, IsTrue, MatchOption, []};
+ghost use Rattle.std.specs.Char.{is_ascii_digit};
+ghost use Rattle.std.specs.List.{list_all};
+ghost use Rattle.std.specs.Str.Parse.{IsNumeral};
+ghost use Rattle.script.specs.Words.{is_blank as blank, end_of_word, start_of_word, first_word, after_word, without_blanks as bare, IsText, Only, Numeral, OnlyNumeral, Reads};
 
 // Words are parted by spaces and tabs.
 fn is_blank(b: u8) -> bool
@@ -55,22 +58,22 @@ fn first_letter(text: &[u8]) -> Option<usize>
 
 // The number that a text begins with, and what follows it.
 pub(crate) fn split_number(text: &[u8]) -> Option<(u64, &[u8])>
-    ensures { IfSome result (λ found. Numeral 64 (first_word text.now) found.0 × (found.1.now ≡ after_word text.now)) }
+    ensures { MatchOption result ((n : ℕ) → ¬ (Numeral 64 (first_word text.now) n)) (λ found. Numeral 64 (first_word text.now) found.0 × (found.1.now ≡ after_word text.now)) }
 {
     let (word, rest) = split_word(text);
     Some((number_in(word)?, rest))
 }
 
 pub(crate) fn split_place(text: &[u8]) -> Option<(u32, &[u8])>
-    ensures { IfSome result (λ found. Numeral 32 (first_word text.now) found.0 × (found.1.now ≡ after_word text.now)) }
+    ensures { MatchOption result ((n : ℕ) → ¬ (Numeral 32 (first_word text.now) n)) (λ found. Numeral 32 (first_word text.now) found.0 × (found.1.now ≡ after_word text.now)) }
 {
     let (word, rest) = split_word(text);
     Some((place_in(word)?, rest))
 }
 
 // The word that a text is, if it is one word and no more.
-pub(crate) fn only(text: &[u8]) -> Option<&[u8]>
-    ensures { IfSome result (λ w. (w.now ≡ first_word text.now) × (after_word text.now ≡ [])) }
+fn only(text: &[u8]) -> Option<&[u8]>
+    ensures { MatchOption result (after_word text.now ≢ []) (λ w. (w.now ≡ first_word text.now) × (after_word text.now ≡ [])) }
 {
     match split_word(text) {
         (word, []) => Some(word),
@@ -80,7 +83,7 @@ pub(crate) fn only(text: &[u8]) -> Option<&[u8]>
 
 // A word as text.
 pub(crate) fn text_of(word: &[u8]) -> Option<&str>
-    ensures { IfSome result (λ w. (w.now ≡ word.now) × (w.now ≢ [])) }
+    ensures { MatchOption result (¬ (IsText word.now)) (λ w. (w.now ≡ word.now) × IsText word.now) }
 {
     match word {
         [] => None,
@@ -89,20 +92,52 @@ pub(crate) fn text_of(word: &[u8]) -> Option<&str>
 }
 
 // The number that a word spells.
-pub(crate) fn number_in(word: &[u8]) -> Option<u64>
-    ensures { IfSome result (Numeral 64 word.now) }
+fn number_in(word: &[u8]) -> Option<u64>
+    ensures { Reads (Numeral 64 word.now) result }
 {
     text_of(word)?.parse::<u64>().ok()
 }
 
-pub(crate) fn place_in(word: &[u8]) -> Option<u32>
-    ensures { IfSome result (Numeral 32 word.now) }
+fn place_in(word: &[u8]) -> Option<u32>
+    ensures { Reads (Numeral 32 word.now) result }
 {
     text_of(word)?.parse::<u32>().ok()
 }
 
 pub(crate) fn count_in(word: &[u8]) -> Option<u16>
-    ensures { IfSome result (Numeral 16 word.now) }
+    ensures { Reads (Numeral 16 word.now) result }
 {
     text_of(word)?.parse::<u16>().ok()
+}
+
+// Whether a word is digits, and nothing else.
+pub(crate) fn is_numeral(word: &[u8]) -> bool
+    ensures { IsTrue result ↔ IsNumeral 10 word.now }
+{
+    !word.is_empty() && all_digits(word)
+}
+
+fn all_digits(word: &[u8]) -> bool
+    ensures { result ≡ list_all is_ascii_digit word.now }
+{
+    word.iter().all(|b| b.is_ascii_digit())
+}
+
+// The text, the number or the place that a text of one word is.
+pub(crate) fn only_text(text: &[u8]) -> Option<&str>
+    ensures { MatchOption result ((w : List ℕ) → ¬ (Only text.now w)) (λ w. Only text.now w.now) }
+{
+    text_of(only(text)?)
+}
+
+pub(crate) fn only_number(text: &[u8]) -> Option<u64>
+    ensures { Reads (OnlyNumeral 64 text.now) result }
+{
+    number_in(only(text)?)
+}
+
+pub(crate) fn only_place(text: &[u8]) -> Option<u32>
+    ensures { Reads (OnlyNumeral 32 text.now) result }
+{
+    place_in(only(text)?)
 }
