@@ -11,9 +11,9 @@ use Rattle.desk.specs.declared.unmade.Unmade.TheVariants.{Refused, Unfit, Memory
 abbrev pub digest_line : (name bytes : List ℕ) → List ℕ
 digest_line name bytes = spelled (hash forward bytes) ++ (codes "  " ++ name)
 
--- an answer: the line, a refusal of what is over the limit and of nothing else, or no memory
+-- an answer: the line, a refusal of what is over the limit and of nothing else, or no memory for what is within it
 abbrev pub Answers : {Text : Type 0} → (Text → List ℕ) → (name bytes : List ℕ) → Result Text Unmade → Type 0
 Answers text name bytes (Ok line) = (length bytes ≤ 65536) × (text line ≡ digest_line name bytes)
 Answers text name bytes (Err (Refused fault)) = (65536 < length bytes) × (fault ≡ record { cause = Limit })
 Answers text name bytes (Err (Unfit fault)) = ⊥
-Answers text name bytes (Err Memory) = Unit {0}
+Answers text name bytes (Err Memory) = length bytes ≤ 65536

@@ -7,9 +7,9 @@ use Rattle.sheets.specs.Reports.{Reports}
 use Rattle.desk.specs.declared.unmade.Unmade.{Unmade}
 use Rattle.desk.specs.declared.unmade.Unmade.TheVariants.{Refused, Unfit, Memory}
 
--- an answer: what a fit plate holds, the fault of an unfit one, or no memory
+-- an answer: what a fit plate holds, the fault of an unfit one, or no memory to tell of a fit one
 abbrev pub Told : {Text : Type 0} → (text : Text → List ℕ) → (image : List ℕ) (places : ℕ) → Result Text Unmade → Type 0
 Told text image places (Ok told) = Fit image places × Reports (plate image places) (text told)
 Told text image places (Err (Unfit fault)) = Not (Fit image places) × (fault ≡ record { cause = UnfitCause; place = None })
 Told text image places (Err (Refused fault)) = ⊥
-Told text image places (Err Memory) = Unit {0}
+Told text image places (Err Memory) = Fit image places
