@@ -1,4 +1,4 @@
-ghost use Rattle.std.specs.Prelude.{◌≡◌, ◌++◌, ◌-◌, length, replicate};
+ghost use Rattle.std.specs.Prelude.{◌≡◌, ◌≢◌, ◌<◌, ◌++◌, ◌-◌, length, replicate, slice_index};
 
 use crate::shown::{Digits, Shown};
 use archive_box::Sheet;
@@ -53,7 +53,8 @@ impl fmt::Display for Looked<'_> {
 
 // A label without the zero bytes at its end.
 fn without_zeros(label: &[u8]) -> &[u8]
-    ensures { label.now ≡ result.now ++ replicate (length label.now - length result.now) 0 }
+    ensures front { label.now ≡ result.now ++ replicate (length label.now - length result.now) 0 }
+    ensures cut { 0 < length result.now → slice_index result.now (length result.now - 1) ≢ 0 }
 {
     let end = label
         .iter()

@@ -1,5 +1,6 @@
-ghost use Rattle.std.specs.Prelude.{◌≡◌, ◌<◌, ◌++◌, ℕ, length, remove, slice_index_or, IfOk, IfSome, MatchResult};
+ghost use Rattle.std.specs.Prelude.{◌≡◌, ◌<◌, [], ◌∷◌, ◌++◌, ℕ, length, remove, slice_index_or, IfSome, MatchResult};
 ghost use Rattle.archive_box.specs.declared.number.Number.{Number};
+ghost use Rattle.box_desk.specs.declared.problems.Problem.TheVariants.{NoNumber};
 ghost use Rattle.std.specs.Option.{option_to_list};
 
 use crate::problems::Problem;
@@ -21,13 +22,18 @@ impl Hand {
         }
     }
 
-    pub(crate) fn put(&mut self, number: Number) -> Result<(), AllocFailed<Number>> {
+    // With no memory for it, the number comes back.
+    pub(crate) fn put(&mut self, number: Number) -> Result<(), AllocFailed<Number>>
+        ensures { MatchResult result
+            (λ _. self.new.numbers.items ≡ self.old.numbers.items ++ number ∷ [])
+            (λ back. (back.value ≡ number) × (self.new.numbers.items ≡ self.old.numbers.items)) }
+    {
         self.numbers.push_back(number)
     }
 
     // The latest number in hand with this value.
     pub(crate) fn take(&mut self, value: u64) -> Result<Number, Problem>
-        ensures value { IfOk result (λ number. number.value ≡ value) }
+        ensures value { MatchResult result (λ number. number.value ≡ value) (λ problem. problem ≡ NoNumber value) }
         ensures others { MatchResult result (λ number. (at : ℕ) × (at < length self.old.numbers.items) × (self.new.numbers.items ≡ remove self.old.numbers.items at)) (λ _. self.new ≡ self.old) }
     {
         match self.latest(value) {
