@@ -8,7 +8,7 @@ use archive_box::{ArchiveBox, Number, Refusal};
 use files::write_whole;
 use saturnin::TwoWayCipher;
 use shelf::Shelf;
-use std::alloc::{AllocFailed, Global};
+use std::alloc::Global;
 
 pub(crate) fn draw<C: TwoWayCipher, S: Shelf>(
     asked: &mut ArchiveBox<C, S>,
@@ -16,23 +16,8 @@ pub(crate) fn draw<C: TwoWayCipher, S: Shelf>(
 ) -> Result<Answer, Problem> {
     let number = asked.draw()?;
     let value = number.value();
-    keep(asked, hand, number)?;
+    hand.put(asked, number)?;
     Ok(Answer::Drawn(value))
-}
-
-// Puts a number into the hand; with no memory for it, it is ended.
-fn keep<C: TwoWayCipher, S: Shelf>(
-    asked: &mut ArchiveBox<C, S>,
-    hand: &mut Hand,
-    number: Number,
-) -> Result<(), Problem> {
-    match hand.put(number) {
-        Ok(()) => Ok(()),
-        Err(AllocFailed { value }) => {
-            let _ = asked.void(value);
-            Err(Problem::Memory)
-        }
-    }
 }
 
 // The answer of a call that spends a number or hands it back.
@@ -44,7 +29,7 @@ fn spent<C: TwoWayCipher, S: Shelf>(
     match told {
         Ok(answer) => Ok(answer),
         Err(Refusal { fault, number }) => {
-            keep(asked, hand, number)?;
+            hand.put(asked, number)?;
             Err(fault.into())
         }
     }

@@ -1,4 +1,4 @@
-ghost use Rattle.std.specs.Prelude.{◌≡◌, ◌<◌, [], ◌∷◌, ◌++◌, ℕ, length, remove, slice_index_or, IfSome, MatchResult};
+ghost use Rattle.std.specs.Prelude.{◌≡◌, ◌<◌, [], ◌∷◌, ◌++◌, ℕ, List, length, remove, slice_index_or, IfSome, MatchOption, MatchResult};
 ghost use Rattle.archive_box.specs.declared.number.Number.{Number};
 ghost use Rattle.box_desk.specs.declared.problems.Problem.TheVariants.{NoNumber};
 ghost use Rattle.std.specs.Option.{option_to_list};
@@ -7,28 +7,47 @@ use crate::problems::Problem;
 use archive_box::{ArchiveBox, Number};
 use saturnin::TwoWayCipher;
 use shelf::Shelf;
-use std::alloc::{AllocFailed, Global};
+use std::alloc::{AllocError, AllocFailed, Global};
 use std::collections::VecDeque;
 
 // The numbers in hand, in the order in which they were drawn.
-pub(crate) struct Hand {
+pub struct Hand {
     numbers: VecDeque<Number>,
 }
 
 impl Hand {
-    pub(crate) fn new(heap: Global) -> Hand {
+    pub fn new(heap: Global) -> Hand
+        ensures { result.numbers.items ≡ [] }
+    {
         Hand {
             numbers: VecDeque::new(heap),
         }
     }
 
-    // With no memory for it, the number comes back.
-    pub(crate) fn put(&mut self, number: Number) -> Result<(), AllocFailed<Number>>
+    // Puts a number in last; with no memory for it, it is ended by this box.
+    pub fn put<C: TwoWayCipher, S: Shelf>(
+        &mut self,
+        ender: &mut ArchiveBox<C, S>,
+        number: Number,
+    ) -> Result<(), AllocError>
         ensures { MatchResult result
             (λ _. self.new.numbers.items ≡ self.old.numbers.items ++ number ∷ [])
-            (λ back. (back.value ≡ number) × (self.new.numbers.items ≡ self.old.numbers.items)) }
+            (λ _. self.new.numbers.items ≡ self.old.numbers.items) }
     {
-        self.numbers.push_back(number)
+        match self.numbers.push_back(number) {
+            Ok(()) => Ok(()),
+            Err(AllocFailed { value }) => {
+                let _ = ender.void(value);
+                Err(AllocError)
+            }
+        }
+    }
+
+    // The value of the first one.
+    pub fn first(&self) -> Option<u64>
+        ensures { MatchOption result (self.now.numbers.items ≡ []) (λ value. (number : Number) × (rest : List Number) × (self.now.numbers.items ≡ number ∷ rest) × (number.value ≡ value)) }
+    {
+        Some(self.numbers.front()?.value())
     }
 
     // The latest number in hand with this value.
@@ -58,14 +77,14 @@ impl Hand {
         None
     }
 
-    pub(crate) fn take_first(&mut self) -> Option<Number>
+    pub fn take_first(&mut self) -> Option<Number>
         ensures { self.old.numbers.items ≡ option_to_list result ++ self.new.numbers.items }
     {
         self.numbers.pop_front()
     }
 
     // Ends each number in hand, by a box that it may not be out in: it is ended all the same.
-    pub(crate) fn end<C: TwoWayCipher, S: Shelf>(self, ender: &mut ArchiveBox<C, S>) {
+    pub fn end<C: TwoWayCipher, S: Shelf>(self, ender: &mut ArchiveBox<C, S>) {
         let Hand { mut numbers } = self;
         while let Some(number) = numbers.pop_front() {
             let _ = ender.void(number);

@@ -12,4 +12,5 @@ mod shown;
 mod worker;
 
 pub use desk::work_script;
+pub use hand::Hand;
 pub use image::Image;

@@ -1,6 +1,6 @@
 use crate::calls::{Answer, Call, Refused, Told};
-use crate::hand::Hand;
 use archive_box::{ArchiveBox, Number, Refusal, Viewing};
+use box_desk::Hand;
 use faults::BoxFault;
 use saturnin::TwoWayCipher;
 use shelf::Shelf;
@@ -40,7 +40,7 @@ pub(crate) fn answer<C: TwoWayCipher, S: Shelf>(
             .map(Told::Message)
             .map_err(plainly),
         Call::NumberAt { place } => asked.number_at(*place).map(Told::NumberAt).map_err(plainly),
-        Call::Seal { .. } | Call::Slip { .. } | Call::Void { .. } => match hand.take() {
+        Call::Seal { .. } | Call::Slip { .. } | Call::Void { .. } => match hand.take_first() {
             Some(number) => return spent(asked, hand, number, call, room),
             None => Ok(Told::Done),
         },

@@ -3,7 +3,6 @@
 mod asked;
 mod calls;
 mod dice;
-mod hand;
 mod images;
 mod plain_box;
 mod plain_cipher;

@@ -1,7 +1,6 @@
 use crate::asked::answer;
 use crate::calls::Call;
 use crate::dice::Dice;
-use crate::hand::Hand;
 use crate::images;
 use crate::plain_box::{PlainBox, Slipped};
 use crate::plain_shelf::{Kind, PlainShelf};
@@ -9,7 +8,7 @@ use crate::tally::Tally;
 use crate::viewed::viewing_is_right;
 use anyhow::anyhow;
 use archive_box::ArchiveBox;
-use box_desk::Image;
+use box_desk::{Hand, Image};
 use plate::Plate;
 use saturnin::TwoWayCipher;
 use saturnin_cube::CubeForm;
@@ -134,7 +133,7 @@ impl<'r> Trial<'r> {
             self.compare(&mut asked, &mut plain, &call)?;
         }
         for _ in 0..self.dice.below(40) {
-            if let Some(number) = self.hand.take() {
+            if let Some(number) = self.hand.take_first() {
                 let _ = other.void(number);
             }
         }
@@ -152,7 +151,7 @@ impl<'r> Trial<'r> {
             self.hand.put(other, foreign)?;
         }
         if self.dice.one_in(2)
-            && let Some(number) = self.hand.take()
+            && let Some(number) = self.hand.take_first()
         {
             self.hand.put(other, number)?;
         }
