@@ -6,8 +6,8 @@ use Rattle.faults.specs.declared.ModeFault.{ModeFault}
 use Rattle.saturnin.specs.Cube.{at}
 use Rattle.saturnin.specs.Meaning.{Bytes, BlockFunction, GivesBlocks}
 use Rattle.octets.specs.Octets.{Octets, zeros}
+use Rattle.octets.proofs.Numbers.{take-bytes}
 use Rattle.modes.specs.Cascade.{ctr, tag, Opens}
-use Rattle.modes.proofs.Texts.{take-bytes}
 use Rattle.modes.proofs.Streams.{ctr_twice}
 use Rattle.modes.proofs.Blocks.{drop-bytes, tag-bytes, ctr-bytes}
 use Rattle.modes.proofs.Exactly.{stable_same}

@@ -10,8 +10,7 @@ use Rattle.faults.specs.declared.BoxFault.{BoxFault}
 use Rattle.faults.proofs.Tables.{done_when}
 use Rattle.saturnin.specs.Meaning.{Bytes}
 use Rattle.octets.specs.Octets.{Octets, big_endian}
-use Rattle.modes.proofs.Texts.{append-bytes}
-use Rattle.modes.proofs.Counting.{big_endian_bytes, length-big_endian}
+use Rattle.octets.proofs.Numbers.{append-bytes, big_endian_bytes, length-big_endian}
 use Rattle.saturnin.specs.Meaning.{Takes}
 use Rattle.modes.specs.Bytes.{padded}
 use Rattle.modes.specs.Short.{short, Holds, filled}

@@ -3,7 +3,7 @@ use Rattle.std.proofs.Common.{◌≡◌, ℕ, ◌+◌, ◌-◌, ◌<◌, ◌≤�
 use Rattle.std.proofs.lemmas.List.{length-append, length-replicate, take_at, drop_at, append_assoc}
 use Rattle.faults.specs.declared.BoxFault.{BoxFault}
 use Rattle.octets.specs.Octets.{zeros, big_endian, spelt, part}
-use Rattle.modes.proofs.Counting.{length-big_endian, spelt-big_endian, spelt-zeros}
+use Rattle.octets.proofs.Numbers.{length-big_endian, spelt-big_endian, spelt-zeros}
 use Rattle.modes.specs.Cascade.{ctr, tag}
 use Rattle.modes.proofs.Streams.{length-ctr, ctr_twice}
 use Rattle.shelf.specs.Meaning.{Meaning}

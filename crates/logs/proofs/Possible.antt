@@ -10,7 +10,6 @@ use Rattle.faults.specs.declared.BoxCause.TheVariants.{Mode, Shelf, Length}
 use Rattle.faults.specs.declared.BoxFault.{BoxFault}
 use Rattle.faults.specs.Causes.{left}
 use Rattle.octets.specs.Octets.{zeros, part}
-use Rattle.modes.specs.Cascade.{ctr}
 use Rattle.modes.specs.Bytes.{padded}
 use Rattle.modes.specs.Short.{Holds, filled}
 use Rattle.shelf.specs.Meaning.{Meaning, Placed}

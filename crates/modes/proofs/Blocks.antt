@@ -8,10 +8,10 @@ use Rattle.modes.specs.Bytes.{xor, padded, full_blocks, block_at, tail_of}
 use Rattle.modes.specs.Chains.{link, links, chain}
 use Rattle.modes.specs.Counters.{counter_block}
 use Rattle.modes.specs.Cascade.{keystream, masked, ctr, tag}
-use Rattle.modes.proofs.Texts.{length-xor, get_or-xor, length-padded, padded-bytes, take-bytes}
-use Rattle.modes.proofs.Counting.{big_endian_bytes, length-big_endian}
+use Rattle.modes.proofs.Texts.{length-xor, get_or-xor, length-padded, padded-bytes}
 use Rattle.modes.proofs.Streams.{length-ctr, get_or-ctr}
 use Rattle.octets.specs.Octets.{Octets}
+use Rattle.octets.proofs.Numbers.{take-bytes, big_endian_bytes, length-big_endian}
 
 pub drop-bytes : (xs : List ℕ) (n : ℕ) → Octets xs → Octets (drop n xs)
 drop-bytes xs n b i = omega (arith, get_or-drop n xs i 0, b (n + i))

@@ -1,12 +1,12 @@
 -- A counter block as a number: the padded nonce with the counter in its last 95 bits.
-use Rattle.std.proofs.Common.{◌≡◌, ℕ, zero, suc, ◌+◌, ◌-◌, ◌*◌, ◌/◌, ◌%◌, ◌^◌, ◌<◌, ◌≤◌, List, [], ◌∷◌, ◌++◌, length, sym, refl, ap, ◌∙◌, mul_assoc, mul_comm, pow-suc, arith, pow-add}
+use Rattle.std.proofs.Common.{◌≡◌, ℕ, suc, ◌+◌, ◌-◌, ◌*◌, ◌^◌, ◌<◌, ◌≤◌, List, [], ◌∷◌, length, sym, refl, ap, ◌∙◌, arith, pow-add}
 use native.Mathlib.Nat.{mul-mul-mul_comm}
 use lib.Bits.{bit_xor, xor_block, xor_shifted}
-use Rattle.std.proofs.lemmas.List.{length-append}
 use Rattle.octets.specs.Octets.{Octets, zeros, big_endian, spelt}
+use Rattle.octets.proofs.Numbers.{spelt-append, spelt-zeros, spelt-big_endian, big_endian_bytes, length-big_endian}
 use Rattle.modes.specs.Bytes.{xor, padded}
 use Rattle.modes.specs.Counters.{counter_block, CounterHeld}
-use Rattle.modes.proofs.Texts.{length-xor, append-bytes, length-padded, padded-bytes}
+use Rattle.modes.proofs.Texts.{length-xor, length-padded, padded-bytes}
 
 spelt-xor : (a b : List ℕ) → length a ≡ length b → Octets a → Octets b → (h k : ℕ) → spelt (xor a b) (bit_xor h k) ≡ bit_xor (spelt a h) (spelt b k)
 unfolding spelt xor
@@ -16,39 +16,6 @@ spelt-xor (x ∷ a) [] l p q h k = absurd (omega arith)
 spelt-xor (x ∷ a) (y ∷ b) l p q h k =
     ap (spelt (xor a b)) (sym (xor_block 8 h k x y (p 0) (q 0)))
     ∙ spelt-xor a b (omega arith) (λ i. p (suc i)) (λ i. q (suc i)) (h * 256 + x) (k * 256 + y)
-
-spelt-append : (a b : List ℕ) (h : ℕ) → spelt (a ++ b) h ≡ spelt b (spelt a h)
-unfolding spelt
-spelt-append [] b h = refl
-spelt-append (x ∷ a) b h = spelt-append a b (h * 256 + x)
-
-pub spelt-zeros : (n h : ℕ) → spelt (zeros n) h ≡ h * 256 ^ n
-unfolding spelt
-spelt-zeros zero h = omega arith
-spelt-zeros (suc n) h =
-    let e : h * 256 + 0 ≡ h * 256 = omega arith in
-    spelt-zeros n (h * 256 + 0) ∙ ap (λ t. t * 256 ^ n) e ∙ mul_assoc h 256 (256 ^ n) ∙ ap (λ t. h * t) (mul_comm 256 (256 ^ n) ∙ sym (pow-suc 256 n))
-
-pub spelt-big_endian : (n c : ℕ) → c < 256 ^ n → spelt (big_endian n c) 0 ≡ c
-unfolding spelt big_endian
-spelt-big_endian zero c h = omega arith
-spelt-big_endian (suc n) c h =
-    let l : c / 256 < 256 ^ n = omega (arith, pow-suc 256 n) in
-    spelt-append (big_endian n (c / 256)) (c % 256 ∷ []) 0 ∙ ap (λ t. t * 256 + c % 256) (spelt-big_endian n (c / 256) l) ∙ omega arith
-
-one_byte : (b : ℕ) → b < 256 → Octets (b ∷ [])
-one_byte b h zero = h
-one_byte b h (suc i) = omega arith
-
-pub big_endian_bytes : (n c : ℕ) → Octets (big_endian n c)
-unfolding big_endian
-big_endian_bytes zero c = λ i. omega arith
-big_endian_bytes (suc n) c = append-bytes (big_endian n (c / 256)) (c % 256 ∷ []) (big_endian_bytes n (c / 256)) (one_byte (c % 256) (omega arith))
-
-pub length-big_endian : (n c : ℕ) → length (big_endian n c) ≡ n
-unfolding big_endian
-length-big_endian zero c = refl
-length-big_endian (suc n) c = length-append (big_endian n (c / 256)) (c % 256 ∷ []) ∙ omega (arith, length-big_endian n (c / 256))
 
 module _ (nonce : List ℕ) (bytes : Octets nonce) (short : length nonce ≤ 20) where
   small : Octets (padded 32 nonce)

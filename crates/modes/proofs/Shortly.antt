@@ -12,8 +12,9 @@ use Rattle.faults.proofs.Tables.{done_from_clear, done_when, stable_eq}
 use Rattle.saturnin.specs.Meaning.{BlockFunction, Takes, TwoWay}
 use Rattle.modes.specs.Bytes.{padded}
 use Rattle.modes.specs.Short.{short, short_open_table, Holds, filled, ShortOpens, ShortSealsTo, ShortOpensExactly}
-use Rattle.modes.proofs.Texts.{append-bytes, length-padded, padded_front, padded-here, padded_after, padded-bytes}
+use Rattle.modes.proofs.Texts.{length-padded, padded_front, padded-here, padded_after, padded-bytes}
 use Rattle.octets.specs.Octets.{Octets}
+use Rattle.octets.proofs.Numbers.{append-bytes}
 
 -- a padded message is that of one message only
 not_longer : (m n : List ℕ) → padded 16 m ≡ padded 16 n → length m < length n → ⊥

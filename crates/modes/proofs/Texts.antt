@@ -1,10 +1,10 @@
--- XOR byte by byte, padding, bytes and numbers.
-use Rattle.std.proofs.Common.{◌≡◌, ℕ, zero, suc, ◌-◌, ◌/◌, ◌%◌, ◌^◌, ◌<◌, List, [], ◌∷◌, ◌++◌, length, get_or, take, drop, set, replicate, sym, refl, ap, ◌∙◌, inl, inr, arith}
+-- XOR byte by byte, and padding.
+use Rattle.std.proofs.Common.{◌≡◌, ℕ, zero, suc, ◌-◌, ◌<◌, List, [], ◌∷◌, ◌++◌, length, get_or, take, drop, set, replicate, sym, refl, ap, ◌∙◌, inl, inr, arith}
 use lib.Bits.{bit_xor}
-use native.Mathlib.Nat.{div-div-eq-div-mul}
 use Rattle.std.proofs.lemmas.Bool.{cases_lt}
-use Rattle.std.proofs.lemmas.List.{drop-replicate, set_at, ext_get_or, length-append, length-take, length-replicate, get_or_append_left, get_or-append_right, get_or_at, get_or-replicate, get_or_past, get_or-take}
-use Rattle.octets.specs.Octets.{Octets, zeros, big_endian}
+use Rattle.std.proofs.lemmas.List.{drop-replicate, set_at, ext_get_or, length-append, length-take, length-replicate, get_or_append_left, get_or-append_right, get_or_at, get_or-take}
+use Rattle.octets.specs.Octets.{Octets, zeros}
+use Rattle.octets.proofs.Numbers.{get_or-zeros}
 use Rattle.modes.specs.Bytes.{xor, padded}
 
 pub length-xor : (a b : List ℕ) → length a ≡ length b → length (xor a b) ≡ length a
@@ -33,32 +33,6 @@ padded_is size s ys l e =
     ap (λ t. set (t ++ drop (length s) (replicate size 0)) (length s) 128) e
     ∙ ap (λ t. set (s ++ t) (length s) 128) (drop-replicate (length s) size 0 ∙ ap (λ t. replicate t 0) m)
     ∙ set_at s 0 (replicate (size - 1 - length s) 0) 128 (length s) refl
-
-pub wide_is : (n : ℕ) (ys : List ℕ) → n < 2 ^ 64
-    → ys ≡ (n / 72057594037927936 % 256) ∷ (n / 281474976710656 % 256) ∷ (n / 1099511627776 % 256) ∷ (n / 4294967296 % 256) ∷ (n / 16777216 % 256) ∷ (n / 65536 % 256) ∷ (n / 256 % 256) ∷ (n % 256) ∷ []
-    → zeros 24 ++ ys ≡ big_endian 32 n
-unfolding big_endian
-wide_is n ys h e =
-    let z : n / 18446744073709551616 ≡ 0 = omega arith in
-    simp (e, div-div-eq-div-mul, z)
-
-pub get_or-zeros : (n i : ℕ) → get_or (zeros n) i 0 ≡ 0
-get_or-zeros n i =
-    elim (cases_lt i n) [ inl h ↦ get_or-replicate n i 0 0 h | inr h ↦ get_or_past (zeros n) i 0 (simp length-replicate h) ]
-
-pub append-bytes : (a b : List ℕ) → Octets a → Octets b → Octets (a ++ b)
-append-bytes a b p q i =
-    elim (cases_lt i (length a)) [
-      | inl h ↦ omega (arith, get_or_append_left a b 0 i h, p i)
-      | inr h ↦ omega (arith, get_or-append_right a b (length a) i 0 refl h, q (i - length a))
-    ]
-
-pub take-bytes : (xs : List ℕ) (n : ℕ) → Octets xs → Octets (take n xs)
-take-bytes xs n b i =
-    elim (cases_lt i n) [
-      | inl h ↦ omega (arith, get_or-take n xs i 0 h, b i)
-      | inr h ↦ omega (arith, get_or_past (take n xs) i 0 (simp length-take (omega arith)))
-    ]
 
 -- the elements of a padded text: before, at and past the padding byte
 module _ (size : ℕ) (m : List ℕ) where

@@ -1,2 +1,3 @@
 pub mod Bytewise
 pub mod Writes
+pub mod Numbers

@@ -1,7 +1,7 @@
-ghost use Rattle.std.specs.Prelude.{◌≡◌, ℕ, ◌<◌, ◌≤◌, None};
+ghost use Rattle.std.specs.Prelude.{◌≡◌, ℕ, ◌<◌, ◌≤◌, None, T};
 ghost use Rattle.faults.specs.Tables.{By};
 ghost use Rattle.shelf.specs.Meaning.{Answers};
-ghost use Rattle.shelf.specs.Plates.{cells, mark, NoMarkAbove, fit_table, used as used_of, LastCell, held, plate, PlateStores};
+ghost use Rattle.shelf.specs.Plates.{cells, mark, NoMarkAbove, fit_table, used as used_of, Remains, LastCell, held, plate, PlateStores};
 ghost use Rattle.shelf.proofs.Plates.{plate_lawful};
 
 use crate::cells::{cells_in, count_used, has_gap, last_cell_of, marks_fit};
@@ -83,7 +83,10 @@ impl Shelf for Plate<'_> {
         self.places
     }
 
-    fn is_open(&self, place: u32) -> bool {
+    fn is_open(&self, place: u32) -> bool
+        ensures opens { result ≡ (plate self.now.memory.now self.now.places).opens place }
+        ensures while_one_remains { (T result → (place < self.now.places) × Remains self.now.memory.now) × ((place < self.now.places) × Remains self.now.memory.now → T result) }
+    {
         place < self.places && self.used < cells_in(self.memory.len())
     }
 

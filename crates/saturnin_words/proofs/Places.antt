@@ -1,11 +1,10 @@
 -- Where the nibbles of a cube stand in the words, and what that says of moves, S-boxes, columns and sums.
-use Rattle.std.proofs.Common.{◌≡◌, ℕ, zero, suc, ◌+◌, ◌*◌, ◌/◌, ◌%◌, ◌<◌, ◌⊎◌, List, [], ◌∷◌, Bool, true, false, cond, T, eqb, refl, inl, inr, sym, ap, ◌∙◌, ap₂, add-zero, arith}
+use Rattle.std.proofs.Common.{◌≡◌, ℕ, zero, suc, ◌+◌, ◌*◌, ◌/◌, ◌%◌, ◌<◌, ◌⊎◌, [], ◌∷◌, Bool, true, false, cond, eqb, refl, inl, inr, sym, ap, ◌∙◌, ap₂, add-zero, arith}
 use Rattle.std.proofs.lemmas.Bool.{lt-ltb, le-ltb}
 use lib.Bits.{bit_xor}
 use Rattle.saturnin.specs.Bits.{bit}
 use Rattle.saturnin.specs.Cube.{at, cube}
 use Rattle.saturnin.specs.Layers.{add}
-use Rattle.saturnin.proofs.Bits.{below, same_below}
 use Rattle.saturnin.proofs.Tables.{at_table, same_table}
 use Rattle.saturnin_words.specs.Words.{across, quad, stands_at, cube_of, in_row, in_word, in_cube}
 use Rattle.saturnin_words.specs.declared.quad.Quad.{Quad}

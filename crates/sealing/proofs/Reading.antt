@@ -13,7 +13,7 @@ use Rattle.faults.proofs.Results.{never_both, same_error}
 use Rattle.faults.proofs.Tables.{by_follows}
 use Rattle.sealing.specs.declared.found.Found.{Found}
 use Rattle.octets.specs.Octets.{part, written, big_endian}
-use Rattle.modes.proofs.Counting.{length-big_endian}
+use Rattle.octets.proofs.Numbers.{length-big_endian}
 use Rattle.saturnin.specs.Meaning.{BlockFunction}
 use Rattle.modes.specs.Cascade.{ctr, Opens}
 use Rattle.modes.proofs.Streams.{length-ctr}

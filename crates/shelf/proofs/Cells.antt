@@ -76,3 +76,31 @@ module _ (memory : List ℕ) where
   no_gap n h i (suc j) l k e =
       let before : mark memory j ≡ 0 = elim (cases_lt i j) [ inl m ↦ no_gap n h i j m (omega arith) e | inr m ↦ subst (λ t. mark memory t ≡ 0) (omega arith) e ] in
       subst (λ t. mark memory t ≡ 0) (omega arith) (h j (omega arith) before)
+
+  -- fewer cells are used than there are exactly while one is unused
+  used_at_most : (n : ℕ) → used memory n ≤ n
+  used_at_most zero = omega arith
+  used_at_most (suc n) =
+      elim (cases_eq (mark memory n) 0) [
+        | inl e ↦ omega (arith, used_less n e, used_at_most n)
+        | inr d ↦ omega (arith, used_more n d, used_at_most n)
+      ]
+
+  pub unused_left : (n : ℕ) → used memory n < n → (j : ℕ) × (j < n) × (mark memory j ≡ 0)
+  unused_left zero h = absurd (omega arith)
+  unused_left (suc n) h =
+      elim (cases_eq (mark memory n) 0) [
+        | inl e ↦ (n, omega arith, e)
+        | inr d ↦ let found : (j : ℕ) × (j < n) × (mark memory j ≡ 0) = unused_left n (omega (arith, used_more n d, h)) in (found.0, omega (arith, found.1), found.2)
+      ]
+
+  pub left_unused : (n j : ℕ) → j < n → mark memory j ≡ 0 → used memory n < n
+  left_unused zero j l e = absurd (omega arith)
+  left_unused (suc n) j l e =
+      elim (cases_eq (mark memory n) 0) [
+        | inl here ↦ omega (arith, used_less n here, used_at_most n)
+        | inr d ↦ elim (cases_eq j n) [
+          | inl same ↦ absurd (d (subst (λ i. mark memory i ≡ 0) same e))
+          | inr other ↦ omega (arith, used_more n d, left_unused n j (omega (arith, other)) e)
+        ]
+      ]

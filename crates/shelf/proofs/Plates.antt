@@ -5,6 +5,7 @@ use Rattle.std.proofs.lemmas.Bool.{ltb-true, lt-ltb, ne_eqb, cases_lt, cases_eq,
 use Rattle.faults.specs.Tables.{Not}
 use Rattle.octets.specs.Octets.{part, written, big_endian}
 use Rattle.octets.proofs.Writes.{length-written, drop-written, part-written, part_below, part_above, get_or-written, get_or-apart, written-before}
+use Rattle.octets.proofs.Numbers.{length-big_endian}
 use Rattle.shelf.specs.Meaning.{Lawful, Puts, Answers, put_table}
 use Rattle.shelf.specs.Plates.{plate_cells, cells, mark, cell_bytes, Fit, used, last_cell, LastCell, held, plate, PlateStores}
 use Rattle.shelf.proofs.Cells.{Front, last_law, last_is, last_same, front_used, front_one, first-unused}
@@ -21,10 +22,6 @@ module _ (memory : List ℕ) where
     inside = λ p o. ltb-true p places (and_parts (ltb p places) (ltb (used memory (cells memory)) (cells memory)) o).0;
     whole = λ p h. held-long p (last_cell memory p (cells memory)) (last_law memory p (cells memory));
   }
-
-mark-long : (n : ℕ) → length (big_endian 2 n) ≡ 2
-unfolding big_endian
-mark-long n = refl
 
 -- a put that no row refuses finds an unused cell
 pub plate_room : (memory bytes : List ℕ) (places p : ℕ) → Answers (put_table (plate memory places) p (length bytes)) (Some p) (Ok tt) → used memory (cells memory) < cells memory
@@ -105,7 +102,7 @@ module _ (memory bytes memory' : List ℕ) (places p : ℕ) (fit : Fit memory pl
   unfolding from cell
   record_here =
       let sign : List ℕ = big_endian 2 (p + 1) in
-      let two : length sign ≡ 2 = mark-long (p + 1) in
+      let two : length sign ≡ 2 = length-big_endian 2 (p + 1) in
       let fits' : from + length sign + length bytes ≤ length memory = omega (arith, fits, cell-long, two, size) in
       let later : List ℕ = written (from + length sign) bytes memory in
       ap (λ m. cell_bytes m u) e'
@@ -134,8 +131,8 @@ module _ (memory bytes memory' : List ℕ) (places p : ℕ) (fit : Fit memory pl
   marks' : (j : ℕ) → j < cells memory → mark memory' j ≤ places
   marks' j l = elim (cases_eq j u) [ inl h ↦ rw h (omega (arith, mark-here, inside)) | inr h ↦ omega (arith, mark-apart j h, fit.marks j l) ]
 
-  last-here : last_cell memory' p (cells memory) ≡ Some u
-  last-here = last_is memory' p (cells memory) (Some u) (room, mark-here, λ i k l z. omega (arith, front'.after i (omega arith) l, z))
+  last_is_here : last_cell memory' p (cells memory) ≡ Some u
+  last_is_here = last_is memory' p (cells memory) (Some u) (room, mark-here, λ i k l z. omega (arith, front'.after i (omega arith) l, z))
 
   same_mark : (q : ℕ) → Not (q ≡ p) → (i : ℕ) → i < cells memory → eqb (mark memory' i) (q + 1) ≡ eqb (mark memory i) (q + 1)
   same_mark q ne i l = elim (cases_eq i u) [
@@ -152,7 +149,7 @@ module _ (memory bytes memory' : List ℕ) (places p : ℕ) (fit : Fit memory pl
   unfolding u
   plate_puts = put_done (plate memory places) p bytes (plate memory' places) allowed (record {
     count = refl;
-    here = rw (same_cells, last-here) record_here;
+    here = rw (same_cells, last_is_here) record_here;
     elsewhere = λ q l ne. rw (same_cells, last_same memory memory' q (cells memory) (same_mark q ne)) (held_same q (last_cell memory q (cells memory)) (last_law memory q (cells memory)));
     opens_none = λ q o. and_from (ltb q places) (ltb u (cells memory)) (and_parts (ltb q places) (ltb (used memory' (cells memory')) (cells memory')) o).0 (lt-ltb u (cells memory) room);
   })

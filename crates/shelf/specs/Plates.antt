@@ -50,6 +50,10 @@ module _ (memory : List ℕ) where
     pub unused : mark j ≡ 0
     pub before : (i : ℕ) → i < j → Not (mark i ≡ 0)
 
+  -- a cell that is still unused
+  abbrev pub Remains : Type 0
+  Remains = (j : ℕ) × (j < cells) × (mark j ≡ 0)
+
   -- the last of the first n cells that has the mark of place p, or none
   abbrev pub last_cell : (p n : ℕ) → Option ℕ
   last_cell p zero = None
@@ -65,7 +69,7 @@ module _ (memory : List ℕ) where
   held None = zeros 1024
   held (Some j) = cell_bytes j
 
-  -- a plate of so many places: each is open while an unused cell remains
+  -- a plate of so many places: each is open while fewer cells are used than there are
   abbrev pub plate : (places : ℕ) → Meaning
   plate places = record {
     count = places;

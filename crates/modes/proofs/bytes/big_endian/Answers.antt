@@ -1,5 +1,5 @@
+use Rattle.octets.proofs.Numbers.{wide_is}
 use Rattle.std.proofs.Common.{length, ap, ◌∙◌, arith}
-use Rattle.modes.proofs.Texts.{wide_is}
 use Rattle.modes.proofs.bytes.big_endian.Goals as goal
 
 pub returns : goal.returns
