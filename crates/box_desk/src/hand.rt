@@ -1,5 +1,6 @@
-ghost use Rattle.std.specs.Prelude.{◌≡◌, ◌<◌, [], ◌∷◌, ◌++◌, ℕ, List, length, remove, slice_index_or, IfSome, MatchOption, MatchResult};
+ghost use Rattle.std.specs.Prelude.{◌≡◌, [], ◌∷◌, ◌++◌, ℕ, List, remove, MatchOption, MatchResult};
 ghost use Rattle.archive_box.specs.declared.number.Number.{Number};
+ghost use Rattle.box_desk.specs.Hands.{Latest};
 ghost use Rattle.box_desk.specs.declared.problems.Problem.TheVariants.{NoNumber};
 ghost use Rattle.std.specs.Option.{option_to_list};
 
@@ -53,7 +54,9 @@ impl Hand {
     // The latest number in hand with this value.
     pub(crate) fn take(&mut self, value: u64) -> Result<Number, Problem>
         ensures value { MatchResult result (λ number. number.value ≡ value) (λ problem. problem ≡ NoNumber value) }
-        ensures others { MatchResult result (λ number. (at : ℕ) × (at < length self.old.numbers.items) × (self.new.numbers.items ≡ remove self.old.numbers.items at)) (λ _. self.new ≡ self.old) }
+        ensures others { MatchResult result
+            (λ _. (at : ℕ) × Latest value self.old.numbers.items (Some at) × (self.new.numbers.items ≡ remove self.old.numbers.items at))
+            (λ _. Latest value self.old.numbers.items None × (self.new ≡ self.old)) }
     {
         match self.latest(value) {
             Some(at) => match self.numbers.remove(at) {
@@ -64,17 +67,19 @@ impl Hand {
         }
     }
 
+    // Where it stands.
     fn latest(&self, value: u64) -> Option<usize>
-        ensures { IfSome result (λ at. (at < length self.now.numbers.items) × ((number : Number) → (slice_index_or self.now.numbers.items at number).value ≡ value)) }
+        ensures { Latest value self.now.numbers.items result }
     {
-        for at in (0..self.numbers.len()).rev() {
+        let mut latest = None;
+        for at in 0..self.numbers.len() {
             if let Some(number) = self.numbers.get(at)
                 && number.value() == value
             {
-                return Some(at);
+                latest = Some(at);
             }
         }
-        None
+        latest
     }
 
     pub fn take_first(&mut self) -> Option<Number>

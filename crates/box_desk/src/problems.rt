@@ -1,3 +1,7 @@
+ghost use Rattle.std.specs.Prelude.{◌≡◌};
+ghost use Rattle.faults.specs.Causes.{from_shelf};
+ghost use Rattle.box_desk.specs.declared.problems.Problem.TheVariants.{Refused, Unread as UnreadProblem, Memory};
+
 use faults::{BoxFault, ShelfFault};
 use files::Unread;
 use std::alloc::AllocError;
@@ -25,24 +29,32 @@ pub(crate) enum Problem {
 }
 
 impl From<BoxFault> for Problem {
+    ghost from_gives = { λ f r. r ≡ Refused f };
+
     fn from(f: BoxFault) -> Problem {
         Problem::Refused(f)
     }
 }
 
 impl From<ShelfFault> for Problem {
+    ghost from_gives = { λ f r. r ≡ Refused (from_shelf f) };
+
     fn from(f: ShelfFault) -> Problem {
         Problem::Refused(f.into())
     }
 }
 
 impl From<Unread> for Problem {
+    ghost from_gives = { λ u r. r ≡ UnreadProblem u };
+
     fn from(u: Unread) -> Problem {
         Problem::Unread(u)
     }
 }
 
 impl From<AllocError> for Problem {
+    ghost from_gives = { λ _ r. r ≡ Memory };
+
     fn from(_e: AllocError) -> Problem {
         Problem::Memory
     }

@@ -1,5 +1,6 @@
-ghost use Rattle.std.specs.Prelude.{◌≡◌, IfOk};
-ghost use Rattle.hexadecimal.specs.Hex.{Spells};
+ghost use Rattle.std.specs.Prelude.{◌≡◌, true, false};
+ghost use Rattle.script.specs.declared.settings.CipherForm.TheVariants.{Words};
+ghost use Rattle.box_desk.specs.Makings.{Makes};
 
 use crate::answers::Answer;
 use crate::problems::Problem;
@@ -53,7 +54,9 @@ pub(crate) struct Settings {
 }
 
 impl Settings {
-    pub(crate) fn new() -> Settings {
+    pub(crate) fn new() -> Settings
+        ensures { result ≡ record { key = None; form = Words; loaded = None; has_shelf = false } }
+    {
         Settings {
             key: None,
             form: CipherForm::Words,
@@ -94,14 +97,16 @@ impl Settings {
         Ok(Answer::Done)
     }
 
-    fn load(&mut self, kind: Kind, image: Vec<u8>) {
+    fn load(&mut self, kind: Kind, image: Vec<u8>)
+        ensures { self.new ≡ record self.old { loaded = Some (record { kind = kind; image = image }); has_shelf = true } }
+    {
         self.loaded = Some(Loaded { kind, image });
         self.has_shelf = true;
     }
 
     // What a box with this sign and first number is made with, if all is there.
     pub(crate) fn making(&self, heap: Global, sign: &str, first: u64) -> Result<Making, Problem>
-        ensures { IfOk result (λ m. (self.now.key ≡ Some m.key) × Spells sign.now m.sign × (m.first ≡ first) × (m.form ≡ self.now.form)) }
+        ensures { Makes sign.now first self.now result }
     {
         let bytes = hexadecimal::decode(heap, sign)?.ok_or(Problem::NoSign)?;
         let Ok(sign) = bytes.as_slice().try_into() else {
