@@ -1,2 +1,3 @@
 pub mod Commands
+pub mod Shelves
 pub mod Spelling

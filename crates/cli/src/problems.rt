@@ -1,3 +1,8 @@
+ghost use Rattle.std.specs.Prelude.{◌≡◌};
+ghost use Rattle.desk.specs.declared.unmade.Unmade.TheVariants.{Memory};
+ghost use Rattle.files.specs.declared.unread.Unread.TheVariants.{Failed};
+ghost use Rattle.cli.specs.declared.problems.Problem.TheVariants.{Unmade as UnmadeProblem, Unread as UnreadProblem};
+
 use desk::Unmade;
 use files::Unread;
 use std::alloc::AllocError;
@@ -15,24 +20,32 @@ pub enum Problem {
 }
 
 impl From<Unmade> for Problem {
+    ghost from_gives = { λ u r. r ≡ UnmadeProblem u };
+
     fn from(u: Unmade) -> Problem {
         Problem::Unmade(u)
     }
 }
 
 impl From<AllocError> for Problem {
+    ghost from_gives = { λ _ r. r ≡ UnmadeProblem Memory };
+
     fn from(e: AllocError) -> Problem {
         Problem::Unmade(e.into())
     }
 }
 
 impl From<Unread> for Problem {
+    ghost from_gives = { λ u r. r ≡ UnreadProblem u };
+
     fn from(u: Unread) -> Problem {
         Problem::Unread(u)
     }
 }
 
 impl From<io::Error> for Problem {
+    ghost from_gives = { λ e r. r ≡ UnreadProblem (Failed e) };
+
     fn from(e: io::Error) -> Problem {
         Problem::Unread(e.into())
     }

@@ -1,4 +1,6 @@
-ghost use Rattle.std.specs.Prelude.{◌<◌};
+ghost use Rattle.std.specs.Prelude.{◌≡◌, ◌++◌, ◌%◌, length, IfOk, string_bytes};
+ghost use Rattle.shelf.specs.Trays.{tray as tray_in};
+ghost use Rattle.cli.specs.Shelves.{spare_line, Lines, PlateLines};
 
 use crate::problems::Problem;
 use desk::{Unmade, plate_report, tray_report};
@@ -7,34 +9,35 @@ use std::alloc::{AllocError, Global};
 
 // What the tray in a file holds.
 pub(crate) fn tray_told(rt: &HostRuntime, file: &str) -> Result<String, Problem> {
-    shelf_told(rt.alloc(), read_tray(rt, file)?, 1024, |heap, image| {
-        Ok(tray_report(heap, image)?)
-    })
+    let image = read_tray(rt, file)?;
+    Ok(tray_lines(rt.alloc(), image)?)
 }
 
 // What the plate in a file holds, or why there is none.
 pub(crate) fn plate_told(rt: &HostRuntime, file: &str, places: &str) -> Result<String, Problem> {
     let places = places.parse::<u32>().map_err(|_| Problem::NoCount)?;
-    shelf_told(rt.alloc(), read_plate(rt, file)?, 1026, |heap, image| {
-        plate_report(heap, image, places)
-    })
+    let image = read_plate(rt, file)?;
+    Ok(plate_lines(rt.alloc(), image, places)?)
 }
 
-// What the shelf in an image holds, in pieces of `piece` bytes.
-fn shelf_told<F: FnOnce(Global, &mut [u8]) -> Result<String, Unmade>>(
-    heap: Global,
-    mut image: Vec<u8>,
-    piece: usize,
-    report: F,
-) -> Result<String, Problem>
-    requires { (0 < piece) × F.IsAlwaysCallable report }
+fn tray_lines(heap: Global, mut image: Vec<u8>) -> Result<String, AllocError>
+    ensures { IfOk result (λ text. Lines (tray_in image.items) (length image.items % 1024) (string_bytes text)) }
 {
-    let spare = image.len() % piece;
-    let text = report(heap, &mut image)?;
-    Ok(with_spare(heap, text, spare)?)
+    let text = tray_report(heap, &mut image)?;
+    with_spare(heap, text, image.len() % 1024)
 }
 
-fn with_spare(heap: Global, text: String, spare: usize) -> Result<String, AllocError> {
+fn plate_lines(heap: Global, mut image: Vec<u8>, places: u32) -> Result<String, Unmade>
+    ensures { PlateLines string_bytes image.items places result }
+{
+    let text = plate_report(heap, &mut image, places)?;
+    Ok(with_spare(heap, text, image.len() % 1026)?)
+}
+
+// A report, and a line on the bytes that are left at the end.
+fn with_spare(heap: Global, text: String, spare: usize) -> Result<String, AllocError>
+    ensures { IfOk result (λ told. string_bytes told ≡ string_bytes text ++ spare_line spare) }
+{
     if spare == 0 {
         return Ok(text);
     }
