@@ -1,4 +1,4 @@
-ghost use Rattle.std.specs.Prelude.{◌≡◌, ◌<◌, T, length};
+ghost use Rattle.std.specs.Prelude.{◌≡◌, ℕ, ◌<◌, ◌≤◌, T, bit_xor, length, slice_index};
 ghost use Rattle.octets.specs.Octets.{big_endian as big_endian_of};
 ghost use Rattle.modes.specs.Bytes.{padded, xor as xored};
 
@@ -9,6 +9,16 @@ pub(crate) fn xor(a: &[u8; 32], b: &[u8; 32]) -> [u8; 32]
     ensures { result ≡ xored a.now b.now }
 {
     array::from_fn(|i| a[i] ^ b[i])
+}
+
+// Adds as much of a block to a part of a text as the part is long.
+pub(crate) fn add(part: &mut [u8], block: &[u8; 32])
+    requires { length part.old ≤ 32 }
+    ensures { (k : ℕ) → k < length part.old → slice_index part.new k ≡ bit_xor (slice_index part.old k) (slice_index block.now k) }
+{
+    for (i, byte) in part.iter_mut().enumerate() {
+        *byte ^= block[i];
+    }
 }
 
 // Whether two blocks are the same. `==` would end at the first difference; here all bytes are looked at.

@@ -3,7 +3,7 @@ ghost use Rattle.faults.specs.Tables.{Checks};
 ghost use Rattle.modes.specs.Cascade.{keystream, ctr as masked_by, tag as tag_value, seal_table, Seals, Opens};
 ghost use Rattle.modes.specs.Exact.{OpensExactly};
 
-use crate::bytes::same;
+use crate::bytes::{add, same};
 use crate::chains::DataChain;
 use crate::counters::Nonce;
 use faults::{ModeCause, ModeFault};
@@ -98,17 +98,15 @@ impl<C: Cipher> Keyed<'_, C> {
             .encrypt_block(self.key, Parameters { d: 1, r: 10 }, &counter.bytes)
     }
 
-    // Counter mode, in place. Byte by byte: of parts of `out` under `chunks_mut` the prover knows nothing after the loop.
+    // Counter mode, in place, block by block; the last one may be short.
     fn ctr(&self, out: &mut [u8])
         requires { length out.old ≤ 65536 }
         ensures { out.new ≡ masked_by (C.Cipher.forward self.now.cipher.now) self.now.key.now self.now.nonce.bytes.now out.old }
     {
-        let mut z = [0; 32];
-        for (j, byte) in out.iter_mut().enumerate() {
-            if j % 32 == 0 {
-                z = self.keystream_block(j / 32);
-            }
-            *byte ^= z[j % 32];
+        let n = out.len();
+        for i in 0..n.div_ceil(32) {
+            let end = (32 * i + 32).min(n);
+            add(&mut out[32 * i..end], &self.keystream_block(i));
         }
     }
 

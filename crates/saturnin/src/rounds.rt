@@ -62,6 +62,7 @@ fn rounds_back<F: Form>(constants: Constants, key: F, block: F) -> F
     s ^ key
 }
 
+#[inline(always)]
 #[tactic(auto, unfolding(crate::specs::TwoRounds::super_round))]
 fn super_round<T: Shift, F: Form>(s: F, key: F, c: RoundConstants) -> F
     ensures { F.cube result ≡ super_round_of T.there T.back (F.cube key) c.0 c.1 (F.cube s) }
@@ -71,6 +72,7 @@ fn super_round<T: Shift, F: Form>(s: F, key: F, c: RoundConstants) -> F
     s.plus_constants(c) ^ key
 }
 
+#[inline(always)]
 fn super_round_back<T: Shift, F: Form>(s: F, key: F, c: RoundConstants) -> F
     ensures { F.cube result ≡ super_round⁻¹ T.there T.back (F.cube key) c.0 c.1 (F.cube s) }
 {

@@ -1,0 +1,15 @@
+-- What a call of the C interface answers.
+use Rattle.std.specs.Prelude.{ℕ, Ok, Err, Result}
+use Rattle.faults.specs.Causes.{entry}
+use Rattle.faults.specs.declared.BoxCause.TheVariants.{Mode}
+use Rattle.faults.specs.declared.ModeFault.{ModeFault}
+
+-- 0 where the call is done, and else the number of its refusal
+abbrev pub number_of : {A : Type 0} → Result A ModeFault → ℕ
+number_of (Ok x) = 0
+number_of (Err fault) = (entry (Mode fault.cause)).number
+
+-- the length of the message that was opened, and 0 where none was
+abbrev pub length_of : Result ℕ ModeFault → ℕ
+length_of (Ok n) = n
+length_of (Err fault) = 0
