@@ -30,7 +30,7 @@ pub(crate) enum Call {
 }
 
 impl Call {
-    // Its name, and where it stands in the tally.
+    // Where it stands in the tally.
     pub(crate) fn kind(&self) -> usize {
         match self {
             Call::Draw => 0,

@@ -54,11 +54,12 @@ impl PlainBox {
         if self.next > 999_999_999 {
             return refused(7, 3, None);
         }
+        let number = self.next;
         for slot in self.out.iter_mut() {
             if slot.is_none() {
-                *slot = Some(self.next);
-                self.next = self.next.saturating_add(1);
-                return Ok(Told::Drawn(self.next.saturating_sub(1)));
+                *slot = Some(number);
+                self.next = number.saturating_add(1);
+                return Ok(Told::Drawn(number));
             }
         }
         refused(8, 3, None)

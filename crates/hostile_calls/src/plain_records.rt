@@ -50,7 +50,7 @@ pub(crate) fn sheet(
     record
 }
 
-// What a record tells: its number and its length, and whatever is wrong with it, by its number.
+// What a record tells: the number that it was sealed under, and the length of its message.
 pub(crate) fn number_of(record: &[u8; 1024]) -> u64 {
     record[8..16]
         .iter()
@@ -61,6 +61,7 @@ pub(crate) fn length_of(record: &[u8; 1024]) -> usize {
     256 * usize::from(record[62]) + usize::from(record[63])
 }
 
+// A record with its message in place of the ciphertext, or the number of what is wrong with it.
 pub(crate) fn opened(key: &[u8; 32], place: u32, record: &[u8; 1024]) -> Result<[u8; 1024], u8> {
     if record.iter().all(|b| *b == 0) {
         return Err(9);

@@ -81,6 +81,7 @@ impl<'r> Trial<'r> {
         shelf: PlainShelf,
         calls: u64,
     ) -> anyhow::Result<PlainShelf> {
+        // Mostly the first key, so that a later box opens what an earlier one sealed.
         let key = self.keys[self.dice.below(8) / 7 % 2];
         let sign = self.signs[self.dice.below(2) % 2];
         let first = match self.dice.below(8) {

@@ -12,25 +12,25 @@ use Rattle.shelf.specs.Meaning.{Answers}
 use Rattle.shelf.specs.Plates.{fit_table}
 use Rattle.logs.specs.States.{Made, State}
 use Rattle.logs.specs.Calls.{refused, draw_table, Draws, seal_table, Seals, slip_table, Slips}
-use Rattle.settled.specs.Settled.{Marks, Gets, Takes}
+use Rattle.settled.specs.Settled.{Marks, Gets, TakesAtMost}
 use Rattle.settled.proofs.Marks.{plate_gap}
 
 module _ (made : Made) (s t : State) (number place : ℕ) (label buffer buffer' : List ℕ) where
-  pub sheet_928 : Takes (λ (fault : BoxFault). fault.cause) 928 (λ message. seal_table made s number place label message buffer) (λ message answer. Seals made s number place label message buffer answer buffer' t)
+  pub sheet_928 : TakesAtMost (λ (fault : BoxFault). fault.cause) 928 (λ message. seal_table made s number place label message buffer) (λ message answer. Seals made s number place label message buffer answer buffer' t)
   sheet_928 message answer c b = (
     λ e. (((((b.1 c.0).1 (λ l. omega (arith, l, e))).1 c.1.1.0).1 c.1.1.1.0).1 c.1.1.1.1.0).0,
     λ e. (_, ((b.1 c.0).0 (omega (arith, e))).0, refl),
   )
 
 module _ (made : Made) (s t : State) (number : ℕ) (buffer buffer' : List ℕ) where
-  pub slip_15 : Takes (λ (fault : BoxFault). fault.cause) 15 (λ message. slip_table made s number message buffer) (λ message answer. Slips made s number message buffer answer buffer' t)
+  pub slip_15 : TakesAtMost (λ (fault : BoxFault). fault.cause) 15 (λ message. slip_table made s number message buffer) (λ message answer. Slips made s number message buffer answer buffer' t)
   slip_15 message answer c b = (
     λ e. (((b.1 c.0).1 (λ l. omega (arith, l, e))).1 c.1.1.0).0,
     λ e. (_, ((b.1 c.0).0 (omega (arith, e))).0, refl),
   )
 
 module _ (f : BlockFunction) (key associated message out sign out' sign' : List ℕ) where
-  pub nonce_20 : Takes (λ (fault : ModeFault). Mode fault.cause) 20 (λ nonce. cascade_table (length key) (length nonce) (length associated) (length message) (length out) (length sign))
+  pub nonce_20 : TakesAtMost (λ (fault : ModeFault). Mode fault.cause) 20 (λ nonce. cascade_table (length key) (length nonce) (length associated) (length message) (length out) (length sign))
       (λ nonce answer. CascadeSeals f key nonce associated message out sign answer out' sign')
   nonce_20 nonce answer c b = (
     λ e. ((b.1 c.0).1 (λ n. c.1.0 (λ h. n (omega (arith, e), h.1, h.2)))).0,

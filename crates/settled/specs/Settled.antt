@@ -35,8 +35,8 @@ abbrev pub Gets : {A F : Type 0} → (cause : F → BoxCause) → (number : ℕ)
 Gets {A} {F} cause number answer = (fault : F) × (answer ≡ Err fault) × ((entry (cause fault)).number ≡ number)
 
 -- a call takes at most so many bytes, by its table and its answer: where no bytes are taken, that many are, and one more gets 2
-abbrev pub Takes : {F C : Type 0} → (cause : F → BoxCause) → (most : ℕ) → (rows : List ℕ → Table C) → (Calls : List ℕ → Result (Unit {0}) F → Type 0) → Type 0
-Takes {F} cause most rows Calls =
+abbrev pub TakesAtMost : {F C : Type 0} → (cause : F → BoxCause) → (most : ℕ) → (rows : List ℕ → Table C) → (Calls : List ℕ → Result (Unit {0}) F → Type 0) → Type 0
+TakesAtMost {F} cause most rows Calls =
     (bytes : List ℕ) (answer : Result (Unit {0}) F) → Clear (rows []) → Calls bytes answer
     → (length bytes ≡ most → answer ≡ Ok tt) × (length bytes ≡ suc most → Gets cause 2 answer)
 
@@ -70,11 +70,11 @@ pub record Settled : Type 0 where
   -- a message of 928 bytes is taken by a seal of the box and one of 929 gets 2, one of 15 by a slip and one of 16 gets 2, and a
   -- nonce of 20 by CTR-Cascade and one of 21 gets 2
   pub sheet_928 : (made : Made) (s t : State) (number place : ℕ) (label buffer buffer' : List ℕ)
-      → Takes (λ fault. fault.cause) 928 (λ message. seal_table made s number place label message buffer) (λ message answer. Seals made s number place label message buffer answer buffer' t)
+      → TakesAtMost (λ fault. fault.cause) 928 (λ message. seal_table made s number place label message buffer) (λ message answer. Seals made s number place label message buffer answer buffer' t)
   pub slip_15 : (made : Made) (s t : State) (number : ℕ) (buffer buffer' : List ℕ)
-      → Takes (λ fault. fault.cause) 15 (λ message. slip_table made s number message buffer) (λ message answer. Slips made s number message buffer answer buffer' t)
+      → TakesAtMost (λ fault. fault.cause) 15 (λ message. slip_table made s number message buffer) (λ message answer. Slips made s number message buffer answer buffer' t)
   pub nonce_20 : (f : BlockFunction) (key associated message out sign out' sign' : List ℕ)
-      → Takes (λ fault. Mode fault.cause) 20 (λ nonce. cascade_table (length key) (length nonce) (length associated) (length message) (length out) (length sign))
+      → TakesAtMost (λ fault. Mode fault.cause) 20 (λ nonce. cascade_table (length key) (length nonce) (length associated) (length message) (length out) (length sign))
       (λ nonce answer. CascadeSeals f key nonce associated message out sign answer out' sign')
   -- after 999,999,999 a draw gets 7
   pub used_up : (made : Made) (s t u : State) (answer : Result ℕ BoxFault) → Draws made s (Ok 999999999) t → Draws made t answer u → Gets (λ fault. fault.cause) 7 answer
