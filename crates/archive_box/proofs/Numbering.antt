@@ -3,9 +3,9 @@ use Rattle.std.proofs.Common.{◌≡◌, ℕ, List, Some, None, Ok, Err, Option,
 use Rattle.faults.specs.Tables.{By, Not}
 use Rattle.faults.specs.declared.BoxFault.{BoxFault}
 use Rattle.faults.proofs.Results.{never_both, same_value}
-use Rattle.sheets.specs.Records.{empty, number_in}
-use Rattle.logs.specs.States.{Made, State}
-use Rattle.logs.specs.Calls.{refused, number_table, Numbers}
+use Rattle.records.specs.Records.{empty, number_in}
+use Rattle.box_model.specs.States.{Made, State}
+use Rattle.box_model.specs.Calls.{refused, number_table, TellsNumber}
 use Rattle.archive_box.specs.Numbers.{with_place}
 
 -- a done answer has no place added
@@ -15,7 +15,7 @@ done_before place (Err fault) x e = absurd (never_both x _ (sym e))
 
 module _ (made : Made) (s : State) (place : ℕ) (held : Result (List ℕ) BoxFault) (bytes : List ℕ) (got : with_place place held ≡ Ok bytes)
     (by : By (number_table made s place) (λ cause. held ≡ refused None cause) (held ≡ Ok (s.shelf.bytes place))) where
-  pub number_by : (answer : Option ℕ) → (bytes ≡ empty → answer ≡ None) → (Not (bytes ≡ empty) → answer ≡ Some (number_in bytes)) → Numbers made s place (Ok answer)
+  pub number_by : (answer : Option ℕ) → (bytes ≡ empty → answer ≡ None) → (Not (bytes ≡ empty) → answer ≡ Some (number_in bytes)) → TellsNumber made s place (Ok answer)
   number_by answer blank full =
       let is : held ≡ Ok bytes = done_before place held bytes got in (
         λ out. absurd (never_both bytes _ (sym is ∙ by.0 out)),

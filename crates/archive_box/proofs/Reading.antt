@@ -8,15 +8,15 @@ use Rattle.sealing.specs.declared.found.Found.{Found}
 use Rattle.sealing.specs.Sealing.{OpensSheet}
 use Rattle.faults.specs.declared.ShelfFault.{ShelfFault}
 use Rattle.shelf.specs.Meaning.{refused, get_table, Gets}
-use Rattle.logs.specs.States.{Made, State}
-use Rattle.logs.specs.Calls.{Reads}
-use Rattle.archive_box.specs.Numbers.{told, with_place}
+use Rattle.box_model.specs.States.{Made, State}
+use Rattle.box_model.specs.Calls.{Reads}
+use Rattle.archive_box.specs.Numbers.{number_and_length, with_place}
 
-told_same : (place : ℕ) (found x : Result Found BoxFault) → found ≡ x → told (with_place place found) ≡ told (with_place place x)
-told_same place found x e = ap (λ r. told (with_place place r)) e
+told_same : (place : ℕ) (found x : Result Found BoxFault) → found ≡ x → number_and_length (with_place place found) ≡ number_and_length (with_place place x)
+told_same place found x e = ap (λ r. number_and_length (with_place place r)) e
 
 module _ (made : Made) (s : State) (place : ℕ) (bytes bytes' bytes'' : List ℕ) (found : Result Found BoxFault) (whole : length bytes ≡ 1024) where
-  pub read_by : Gets s.shelf place bytes (Ok tt) bytes' → OpensSheet made.forward made.key place bytes' found bytes'' → Reads made s place bytes (told (with_place place found)) bytes'' s
+  pub read_by : Gets s.shelf place bytes (Ok tt) bytes' → OpensSheet made.forward made.key place bytes' found bytes'' → Reads made s place bytes (number_and_length (with_place place found)) bytes'' s
   read_by gets opens =
       let got = done_when (λ c. (◌≡◌ {A = Result (Unit {0}) ShelfFault} (Ok tt) (refused None c)) × (bytes' ≡ bytes)) _ (get_table s.shelf place (length bytes)) (λ c r. never_both tt _ r.0) gets in
       let o : OpensSheet made.forward made.key place (s.shelf.bytes place) found bytes'' = subst (λ b. OpensSheet made.forward made.key place b found bytes'') got.1.1 opens in

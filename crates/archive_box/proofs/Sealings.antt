@@ -6,9 +6,9 @@ use Rattle.faults.specs.declared.BoxFault.{BoxFault}
 use Rattle.faults.specs.declared.ShelfFault.{ShelfFault}
 use Rattle.faults.proofs.Tables.{by_follows}
 use Rattle.shelf.specs.Meaning.{Meaning, Placed, Puts}
-use Rattle.sheets.specs.Sheets.{sheet}
-use Rattle.logs.specs.States.{Made, State, without}
-use Rattle.logs.specs.Calls.{refused, seal_table, Seals}
+use Rattle.records.specs.Sheets.{sheet}
+use Rattle.box_model.specs.States.{Made, State, without}
+use Rattle.box_model.specs.Calls.{refused, seal_table, Seals}
 use Rattle.archive_box.specs.Numbers.{with_place}
 
 -- where no row applies, a table has the outcome of being done

@@ -5,8 +5,8 @@ use Rattle.faults.specs.declared.ModeFault.{ModeFault}
 use Rattle.faults.specs.declared.BoxFault.{BoxFault}
 use Rattle.faults.proofs.Results.{never_both, same_error, same_value}
 use Rattle.modes.specs.Short.{ShortOpens}
-use Rattle.logs.specs.States.{Made, State}
-use Rattle.logs.specs.Calls.{Unslips}
+use Rattle.box_model.specs.States.{Made, State}
+use Rattle.box_model.specs.Calls.{Unslips}
 
 module _ (made : Made) (s : State) (bytes out out' nonce block : List ℕ) (answer : Result ℕ ModeFault) (kl : length made.key ≡ 32) (nl : length nonce ≡ 16) (bl : length block ≡ 32) (ol : length out ≡ 15)
     (whole : length bytes ≡ 48) (front : nonce ≡ take 16 bytes) (rest : block ≡ drop 16 bytes) (opens : ShortOpens made.back made.key nonce block out answer out') where

@@ -1,8 +1,8 @@
 -- What a box on a cipher and a shelf is, by what the cipher computes and what the shelf means.
 use Rattle.std.specs.Prelude.{ℕ, List}
-use Rattle.saturnin.specs.Meaning.{BlockFunction}
+use Rattle.cipher.specs.Meaning.{BlockFunction}
 use Rattle.shelf.specs.Meaning.{Meaning}
-use Rattle.logs.specs.States.{Made, State}
+use Rattle.box_model.specs.States.{Made, State}
 use Rattle.numbers.specs.Listed.{listed}
 use Rattle.archive_box.specs.declared.boxes.ArchiveBox.{ArchiveBox}
 

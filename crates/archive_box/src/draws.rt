@@ -1,12 +1,12 @@
 ghost use Rattle.std.specs.Prelude.{◌≡◌, ℕ};
-ghost use Rattle.logs.specs.Calls.{Draws};
+ghost use Rattle.box_model.specs.Calls.{Draws};
 ghost use Rattle.archive_box.specs.Boxes.{fixed, made, state};
-ghost use Rattle.archive_box.specs.Numbers.{drawn};
+ghost use Rattle.archive_box.specs.Numbers.{drawn_value};
 
 use crate::boxes::ArchiveBox;
 use crate::number::Number;
 use faults::{BoxCause, BoxFault};
-use saturnin::TwoWayCipher;
+use cipher::TwoWayCipher;
 use shelf::Shelf;
 
 const LAST: u64 = 999_999_999;
@@ -16,7 +16,7 @@ impl<C: TwoWayCipher, S: Shelf> ArchiveBox<C, S> {
     pub fn draw(&mut self) -> Result<Number, BoxFault>
         ensures fixed { fixed self.new ≡ fixed self.old }
         ensures shelf { self.new.shelf ≡ self.old.shelf }
-        ensures draws { Draws (made C.Cipher.forward C.TwoWayCipher.back self.old) (state S.Shelf.meaning self.old) (drawn result) (state S.Shelf.meaning self.new) }
+        ensures draws { Draws (made C.Cipher.forward C.TwoWayCipher.back self.old) (state S.Shelf.meaning self.old) (drawn_value result) (state S.Shelf.meaning self.new) }
     {
         if self.next > LAST {
             return Err(BoxCause::UsedUp.into());

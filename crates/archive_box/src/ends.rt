@@ -1,14 +1,14 @@
 ghost use Rattle.std.specs.Prelude.{◌≡◌, ◌<◌, ℕ, None, Err, MatchResult};
 ghost use Rattle.faults.specs.declared.BoxCause.TheVariants.{NotOut};
-ghost use Rattle.logs.specs.States.{count};
-ghost use Rattle.logs.specs.Calls.{Voids, refused};
+ghost use Rattle.box_model.specs.States.{count};
+ghost use Rattle.box_model.specs.Calls.{Voids, refused};
 ghost use Rattle.numbers.specs.Listed.{listed};
 ghost use Rattle.archive_box.specs.Boxes.{fixed, made, state};
 
 use crate::boxes::ArchiveBox;
 use crate::number::Number;
 use faults::{BoxCause, BoxFault};
-use saturnin::TwoWayCipher;
+use cipher::TwoWayCipher;
 use shelf::Shelf;
 
 impl<C: TwoWayCipher, S: Shelf> ArchiveBox<C, S> {

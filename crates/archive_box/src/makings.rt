@@ -1,10 +1,10 @@
 ghost use Rattle.std.specs.Prelude.{◌≡◌, ℕ, [], max};
-ghost use Rattle.logs.specs.Laws.{Kept};
+ghost use Rattle.box_model.specs.Laws.{Kept};
 ghost use Rattle.archive_box.specs.Boxes.{made, state};
 
 use crate::boxes::ArchiveBox;
 use numbers::NumbersOut;
-use saturnin::TwoWayCipher;
+use cipher::TwoWayCipher;
 use shelf::Shelf;
 
 impl<C: TwoWayCipher, S: Shelf> ArchiveBox<C, S> {

@@ -1,15 +1,15 @@
 ghost use Rattle.std.specs.Prelude.{◌≡◌, ℕ, None, Ok, MatchResult};
 ghost use Rattle.faults.specs.Tables.{By};
-ghost use Rattle.sheets.specs.Records.{empty};
-ghost use Rattle.logs.specs.Calls.{refused, Clears, Reads, number_table, Numbers};
+ghost use Rattle.records.specs.Records.{empty};
+ghost use Rattle.box_model.specs.Calls.{refused, Clears, Reads, number_table, TellsNumber};
 ghost use Rattle.archive_box.specs.Boxes.{fixed, made, state};
-ghost use Rattle.archive_box.specs.Numbers.{told, with_place};
+ghost use Rattle.archive_box.specs.Numbers.{number_and_length, with_place};
 
 use crate::boxes::ArchiveBox;
 use faults::{BoxCause, BoxFault};
-use saturnin::TwoWayCipher;
+use cipher::TwoWayCipher;
 use sealing::{Found, PlaceLock};
-use sheets::number_in;
+use records::number_in;
 use shelf::Shelf;
 
 impl<C: TwoWayCipher, S: Shelf> ArchiveBox<C, S> {
@@ -32,14 +32,14 @@ impl<C: TwoWayCipher, S: Shelf> ArchiveBox<C, S> {
     // Reads the sheet at the place: its number and the length of its message, and the buffer then holds its record with the
     // message in place of the ciphertext.
     pub fn read(&self, place: u32, bytes: &mut [u8]) -> Result<Found, BoxFault>
-        ensures { Reads (made C.Cipher.forward C.TwoWayCipher.back self.now) (state S.Shelf.meaning self.now) place bytes.old (told result) bytes.new (state S.Shelf.meaning self.now) }
+        ensures { Reads (made C.Cipher.forward C.TwoWayCipher.back self.now) (state S.Shelf.meaning self.now) place bytes.old (number_and_length result) bytes.new (state S.Shelf.meaning self.now) }
     {
-        self.opened(place, bytes).map_err(|fault| fault.at(place))
+        self.opened(place, bytes).map_err(|fault| fault.placed(place))
     }
 
     // The same, without the place in a fault.
     fn opened(&self, place: u32, bytes: &mut [u8]) -> Result<Found, BoxFault>
-        ensures { Reads (made C.Cipher.forward C.TwoWayCipher.back self.now) (state S.Shelf.meaning self.now) place bytes.old (told (with_place place result)) bytes.new (state S.Shelf.meaning self.now) }
+        ensures { Reads (made C.Cipher.forward C.TwoWayCipher.back self.now) (state S.Shelf.meaning self.now) place bytes.old (number_and_length (with_place place result)) bytes.new (state S.Shelf.meaning self.now) }
     {
         match bytes.as_mut_array() {
             Some(bytes) => self.opened_record(place, bytes),
@@ -48,7 +48,7 @@ impl<C: TwoWayCipher, S: Shelf> ArchiveBox<C, S> {
     }
 
     fn opened_record(&self, place: u32, bytes: &mut [u8; 1024]) -> Result<Found, BoxFault>
-        ensures { Reads (made C.Cipher.forward C.TwoWayCipher.back self.now) (state S.Shelf.meaning self.now) place bytes.old (told (with_place place result)) bytes.new (state S.Shelf.meaning self.now) }
+        ensures { Reads (made C.Cipher.forward C.TwoWayCipher.back self.now) (state S.Shelf.meaning self.now) place bytes.old (number_and_length (with_place place result)) bytes.new (state S.Shelf.meaning self.now) }
     {
         self.shelf.get(place, bytes)?;
         let lock = PlaceLock {
@@ -61,9 +61,9 @@ impl<C: TwoWayCipher, S: Shelf> ArchiveBox<C, S> {
 
     // The number of the record at the place, which is not opened for it; absent where the place is empty.
     pub fn number_at(&self, place: u32) -> Result<Option<u64>, BoxFault>
-        ensures { Numbers (made C.Cipher.forward C.TwoWayCipher.back self.now) (state S.Shelf.meaning self.now) place result }
+        ensures { TellsNumber (made C.Cipher.forward C.TwoWayCipher.back self.now) (state S.Shelf.meaning self.now) place result }
     {
-        let bytes = self.record(place).map_err(|fault| fault.at(place))?;
+        let bytes = self.record(place).map_err(|fault| fault.placed(place))?;
         if octets::is_zero(&bytes) {
             return Ok(None);
         }

@@ -1,14 +1,14 @@
 ghost use Rattle.std.specs.Prelude.{◌≡◌, ℕ, List, Some, IfErr, MatchResult};
 ghost use Rattle.faults.specs.Causes.{placed};
 ghost use Rattle.faults.specs.Tables.{By, Clear};
-ghost use Rattle.logs.specs.Calls.{seal_table, Seals};
+ghost use Rattle.box_model.specs.Calls.{seal_table, Seals};
 ghost use Rattle.archive_box.specs.Boxes.{fixed, made, state};
-ghost use Rattle.archive_box.specs.Numbers.{faulted, with_place};
+ghost use Rattle.archive_box.specs.Numbers.{fault_of, with_place};
 
 use crate::boxes::ArchiveBox;
 use crate::number::{Number, Refusal};
 use faults::{BoxCause, BoxFault};
-use saturnin::TwoWayCipher;
+use cipher::TwoWayCipher;
 use sealing::PlaceLock;
 use shelf::Shelf;
 
@@ -25,7 +25,7 @@ impl<C: TwoWayCipher, S: Shelf> ArchiveBox<C, S> {
         ensures back { IfErr result (λ r. r.number ≡ number) }
         ensures fixed { fixed self.new ≡ fixed self.old }
         ensures shelf { MatchResult result (λ _. S.Shelf.stores self.old.shelf place bytes.new self.new.shelf) (λ _. self.new ≡ self.old) }
-        ensures seals { Seals (made C.Cipher.forward C.TwoWayCipher.back self.old) (state S.Shelf.meaning self.old) number.value place label.now message.now bytes.old (faulted result) bytes.new (state S.Shelf.meaning self.new) }
+        ensures seals { Seals (made C.Cipher.forward C.TwoWayCipher.back self.old) (state S.Shelf.meaning self.old) number.value place label.now message.now bytes.old (fault_of result) bytes.new (state S.Shelf.meaning self.new) }
     {
         match self.sealed(number.value, place, label, message, bytes) {
             Ok(()) => {
@@ -33,7 +33,7 @@ impl<C: TwoWayCipher, S: Shelf> ArchiveBox<C, S> {
                 Ok(())
             }
             Err(fault) => Err(Refusal {
-                fault: fault.at(place),
+                fault: fault.placed(place),
                 number,
             }),
         }

@@ -1,15 +1,15 @@
 ghost use Rattle.std.specs.Prelude.{◌≡◌, ℕ, IfErr};
-ghost use Rattle.sheets.specs.Sheets.{nonce_of};
-ghost use Rattle.logs.specs.Calls.{Slips, Unslips};
+ghost use Rattle.records.specs.Sheets.{nonce_of};
+ghost use Rattle.box_model.specs.Calls.{Slips, Unslips};
 ghost use Rattle.archive_box.specs.Boxes.{fixed, made, state};
-ghost use Rattle.archive_box.specs.Numbers.{faulted};
+ghost use Rattle.archive_box.specs.Numbers.{fault_of};
 
 use crate::boxes::ArchiveBox;
 use crate::number::{Number, Refusal};
 use faults::{BoxCause, BoxFault};
 use modes::{open_short, seal_short};
 use octets::{joined, paste};
-use saturnin::TwoWayCipher;
+use cipher::TwoWayCipher;
 use shelf::Shelf;
 
 impl<C: TwoWayCipher, S: Shelf> ArchiveBox<C, S> {
@@ -18,7 +18,7 @@ impl<C: TwoWayCipher, S: Shelf> ArchiveBox<C, S> {
         ensures back { IfErr result (λ r. r.number ≡ number) }
         ensures fixed { fixed self.new ≡ fixed self.old }
         ensures shelf { self.new.shelf ≡ self.old.shelf }
-        ensures slips { Slips (made C.Cipher.forward C.TwoWayCipher.back self.old) (state S.Shelf.meaning self.old) number.value message.now bytes.old (faulted result) bytes.new (state S.Shelf.meaning self.new) }
+        ensures slips { Slips (made C.Cipher.forward C.TwoWayCipher.back self.old) (state S.Shelf.meaning self.old) number.value message.now bytes.old (fault_of result) bytes.new (state S.Shelf.meaning self.new) }
     {
         match self.slipped(number.value, message, bytes) {
             Ok(()) => {

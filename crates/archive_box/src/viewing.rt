@@ -2,7 +2,7 @@ ghost use Rattle.std.specs.Prelude.{◌≡◌, ◌≢◌, length};
 ghost use Rattle.octets.specs.Octets.{zeros};
 ghost use Rattle.archive_box.specs.Viewings.{Shows};
 
-use sheets::number_in;
+use records::number_in;
 
 // A viewing is the time in which a read sheet is looked at: it borrows the record buffer that the read has filled, and however
 // it ends, the buffer is then zero.

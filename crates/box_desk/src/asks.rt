@@ -6,7 +6,7 @@ use crate::image::Image;
 use crate::problems::Problem;
 use archive_box::{ArchiveBox, Number, Refusal};
 use files::write_whole;
-use saturnin::TwoWayCipher;
+use cipher::TwoWayCipher;
 use shelf::Shelf;
 use std::alloc::Global;
 

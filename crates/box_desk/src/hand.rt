@@ -6,7 +6,7 @@ ghost use Rattle.std.specs.Option.{option_to_list};
 
 use crate::problems::Problem;
 use archive_box::{ArchiveBox, Number};
-use saturnin::TwoWayCipher;
+use cipher::TwoWayCipher;
 use shelf::Shelf;
 use std::alloc::{AllocError, AllocFailed, Global};
 use std::collections::VecDeque;

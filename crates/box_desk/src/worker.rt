@@ -4,7 +4,7 @@ use crate::hand::Hand;
 use crate::image::Image;
 use crate::problems::Problem;
 use archive_box::{ArchiveBox, Number};
-use saturnin::TwoWayCipher;
+use cipher::TwoWayCipher;
 use saturnin_words::WordForm;
 use script::BoxCall;
 use tray::Tray;

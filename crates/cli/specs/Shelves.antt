@@ -1,8 +1,8 @@
 -- What the commands on shelves print: the report, and then a line on bytes that belong to no place, where there are some.
 use Rattle.std.specs.Prelude.{◌≡◌, ℕ, ◌%◌, ◌==◌, cond, List, [], ◌++◌, length, codes, decimal, Ok, Err, Result}
 use Rattle.shelf.specs.Meaning.{Meaning}
-use Rattle.shelf.specs.Plates.{Fit, plate}
-use Rattle.sheets.specs.Reports.{Reports}
+use Rattle.plate.specs.Plates.{Fit, plate}
+use Rattle.inventory.specs.Reports.{Reports}
 use Rattle.desk.specs.Shelves.{Told}
 use Rattle.desk.specs.declared.unmade.Unmade.{Unmade}
 

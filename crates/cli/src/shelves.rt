@@ -1,5 +1,5 @@
 ghost use Rattle.std.specs.Prelude.{◌≡◌, ◌++◌, ◌%◌, length, IfOk, string_bytes};
-ghost use Rattle.shelf.specs.Trays.{tray as tray_in};
+ghost use Rattle.tray.specs.Trays.{tray as tray_in};
 ghost use Rattle.cli.specs.Shelves.{spare_line, Lines, PlateLines};
 
 use crate::problems::Problem;

@@ -1,6 +1,6 @@
 -- No memory, after the check of a plate.
 use Rattle.std.proofs.Common.{◌≡◌, ℕ, List, Ok, Err, Result, IsErrAnd, arith}
-use Rattle.shelf.specs.Plates.{Fit}
+use Rattle.plate.specs.Plates.{Fit}
 use Rattle.desk.specs.declared.unmade.Unmade.{Unmade}
 use Rattle.desk.specs.declared.unmade.Unmade.TheVariants.{Refused, Unfit, Memory}
 use Rattle.desk.specs.Shelves.{Told}

@@ -1,5 +1,6 @@
 -- What a line of `majgunter hash` says.
 use Rattle.std.specs.Prelude.{◌≡◌, ℕ, ◌<◌, ◌≤◌, List, ◌++◌, length, Ok, Err, codes, Result}
+use Rattle.faults.specs.Causes.{mode_fault}
 use Rattle.faults.specs.declared.ModeCause.TheVariants.{Limit}
 use Rattle.hexadecimal.specs.Hex.{spelled}
 use Rattle.modes.specs.Hash.{hash}
@@ -14,6 +15,6 @@ digest_line name bytes = spelled (hash forward bytes) ++ (codes "  " ++ name)
 -- an answer: the line, a refusal of what is over the limit and of nothing else, or no memory for what is within it
 abbrev pub Answers : {Text : Type 0} → (Text → List ℕ) → (name bytes : List ℕ) → Result Text Unmade → Type 0
 Answers text name bytes (Ok line) = (length bytes ≤ 65536) × (text line ≡ digest_line name bytes)
-Answers text name bytes (Err (Refused fault)) = (65536 < length bytes) × (fault ≡ record { cause = Limit })
+Answers text name bytes (Err (Refused fault)) = (65536 < length bytes) × (fault ≡ mode_fault Limit)
 Answers text name bytes (Err (Unfit fault)) = ⊥
 Answers text name bytes (Err Memory) = length bytes ≤ 65536

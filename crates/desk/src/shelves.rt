@@ -1,11 +1,11 @@
 ghost use Rattle.std.specs.Prelude.{◌≡◌, IfOk, string_bytes};
-ghost use Rattle.shelf.specs.Trays.{tray as tray_in};
-ghost use Rattle.sheets.specs.Reports.{Reports};
+ghost use Rattle.tray.specs.Trays.{tray as tray_in};
+ghost use Rattle.inventory.specs.Reports.{Reports};
 ghost use Rattle.desk.specs.Shelves.{Told};
 
 use crate::unmade::Unmade;
 use plate::Plate;
-use sheets::report;
+use inventory::report;
 use std::alloc::{AllocError, Global};
 use tray::Tray;
 

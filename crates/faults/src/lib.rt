@@ -1,74 +1,75 @@
 #![tactic(auto)]
 
 ghost use Rattle.std.specs.Prelude.{◌≡◌, None, Some};
-ghost use Rattle.faults.specs.Causes.{entry, from_mode, from_shelf, placed};
-ghost use Rattle.faults.specs.Words.{meaning, told};
+ghost use Rattle.faults.specs.Causes.{entry, mode_fault, shelf_fault, box_fault, from_mode, from_shelf, placed};
+ghost use Rattle.faults.specs.Words.{printed};
 ghost use Rattle.faults.specs.declared.BoxCause.TheVariants.{Mode, Shelf};
 
 use std::fmt;
 
-// Why the cipher or a mode refuses a call.
+/// Why the cipher or a mode refuses a call.
 #[derive(Clone, Copy, PartialEq, Eq, Debug)]
 pub enum ModeCause {
-    // a key, nonce of Short, block, tag or output buffer that is not of its stated length
+    /// a key, nonce of Short, block, tag or output buffer that is not of its stated length
     Length,
-    // a nonce, data, a message or a chain's tail over its limit
+    /// a nonce, data, a message or a chain's tail over its limit
     Limit,
-    // a separator above 15, or a count of super-rounds outside 10 to 31
+    /// a separator above 15, or a count of super-rounds outside 10 to 31
     Parameter,
-    // the tag differs
+    /// the tag differs
     Tag,
-    // the block of a slip has another nonce or no padding
-    Slip,
+    /// a block of Short that turns back into another nonce or into no padding
+    Padding,
 }
 
-// Why a shelf refuses a call.
+/// Why a shelf refuses a call.
 #[derive(Clone, Copy, PartialEq, Eq, Debug)]
 pub enum ShelfCause {
-    // a record or a record buffer that is not of its stated length
+    /// a record or a record buffer that is not of its stated length
     Length,
-    // a place that the shelf does not have
+    /// a place that the shelf does not have
     Outside,
-    // a put at a shut place
+    /// a put at a shut place
     Shut,
-    // memory that is no plate
+    /// memory that is no plate
     Unfit,
 }
 
-// Why a box refuses a call: a cause of its own, or one that came up from below.
+/// Why a box refuses a call: a cause of its own, or one that came up from below.
 #[derive(Clone, Copy, PartialEq, Eq, Debug)]
 pub enum BoxCause {
     Mode(ModeCause),
     Shelf(ShelfCause),
-    // a label, a slip or a buffer that is not of its stated length
+    /// a label, a slip or a buffer that is not of its stated length
     Length,
-    // a message over its limit
+    /// a message over its limit
     Limit,
-    // a number that is not out in this box
+    /// a number that is not out in this box
     NotOut,
-    // no number is left
+    /// no number is left
     UsedUp,
-    // sixteen numbers are out
+    /// sixteen numbers are out
     SixteenOut,
-    // an empty place, in a read
+    /// an empty place, in a read
     Empty,
-    // a record whose length is above the limit, or whose filling is not zero
+    /// a record whose length is above the limit, or whose filling is not zero
     Filling,
 }
 
+/// A refusal by the cipher or a mode; layer 1.
 #[derive(Clone, Copy, PartialEq, Eq, Debug)]
 pub struct ModeFault {
     pub cause: ModeCause,
 }
 
-// The faults that have a place are two types: one type over its cause would save these four lines, and put the cause's type
-// into each definition and clause that names a fault.
+/// A refusal by a shelf, with the place that it names; layer 2.
 #[derive(Clone, Copy, PartialEq, Eq, Debug)]
 pub struct ShelfFault {
     pub cause: ShelfCause,
     pub place: Option<u32>,
 }
 
+/// A refusal by a box, with the place that it names; the layer is that of its cause.
 #[derive(Clone, Copy, PartialEq, Eq, Debug)]
 pub struct BoxFault {
     pub cause: BoxCause,
@@ -77,7 +78,7 @@ pub struct BoxFault {
 
 // A fault without a place.
 impl From<ModeCause> for ModeFault {
-    ghost from_gives = { λ c r. r ≡ record { cause = c } };
+    ghost from_gives = { λ c r. r ≡ mode_fault c };
 
     fn from(cause: ModeCause) -> ModeFault {
         ModeFault { cause }
@@ -85,7 +86,7 @@ impl From<ModeCause> for ModeFault {
 }
 
 impl From<ShelfCause> for ShelfFault {
-    ghost from_gives = { λ c r. r ≡ record { cause = c; place = None } };
+    ghost from_gives = { λ c r. r ≡ shelf_fault None c };
 
     fn from(cause: ShelfCause) -> ShelfFault {
         ShelfFault { cause, place: None }
@@ -93,7 +94,7 @@ impl From<ShelfCause> for ShelfFault {
 }
 
 impl From<BoxCause> for BoxFault {
-    ghost from_gives = { λ c r. r ≡ record { cause = c; place = None } };
+    ghost from_gives = { λ c r. r ≡ box_fault None c };
 
     fn from(cause: BoxCause) -> BoxFault {
         BoxFault { cause, place: None }
@@ -101,6 +102,7 @@ impl From<BoxCause> for BoxFault {
 }
 
 impl BoxCause {
+    /// The number of the cause, 1 to 13.
     pub fn number(self) -> u8
         ensures { result ≡ (entry self).number }
     {
@@ -118,11 +120,12 @@ impl BoxCause {
             BoxCause::Empty => 9,
             BoxCause::Filling => 10,
             BoxCause::Mode(ModeCause::Tag) => 11,
-            BoxCause::Mode(ModeCause::Slip) => 12,
+            BoxCause::Mode(ModeCause::Padding) => 12,
             BoxCause::Shelf(ShelfCause::Unfit) => 13,
         }
     }
 
+    /// The layer of the cause: 1 modes, 2 shelf, 3 box.
     pub fn layer(self) -> u8
         ensures { result ≡ (entry self).layer }
     {
@@ -136,7 +139,7 @@ impl BoxCause {
 
 // What the cause means, in words.
 impl fmt::Display for BoxCause {
-    ghost output = { λ c. Some (meaning c) };
+    ghost output = { λ c. Some (entry c).words };
 
     fn fmt<W: fmt::Write>(&self, f: &mut fmt::Formatter<W>) -> fmt::Result {
         let words = match self {
@@ -155,46 +158,62 @@ impl fmt::Display for BoxCause {
             BoxCause::Empty => "the place is empty",
             BoxCause::Filling => "length above 928, or filling not zero",
             BoxCause::Mode(ModeCause::Tag) => "the tag differs",
-            BoxCause::Mode(ModeCause::Slip) => "another nonce or no padding",
+            BoxCause::Mode(ModeCause::Padding) => "another nonce or no padding",
             BoxCause::Shelf(ShelfCause::Unfit) => "the plate is unfit",
         };
         f.write_str(words)
     }
 }
 
-// The number of a fault, and its words below, once for each type that has them: a trait of faults would be longer than these
-// lines, and one generic type would give a mode's fault a place.
 impl ModeFault {
+    /// The number of the cause.
     pub fn number(self) -> u8
         ensures { result ≡ (entry (Mode self.cause)).number }
     {
         BoxCause::Mode(self.cause).number()
     }
+
+    /// Layer 1.
+    pub fn layer(self) -> u8
+        ensures { result ≡ (entry (Mode self.cause)).layer }
+    {
+        BoxCause::Mode(self.cause).layer()
+    }
 }
 
 impl ShelfFault {
+    /// The number of the cause.
     pub fn number(self) -> u8
         ensures { result ≡ (entry (Shelf self.cause)).number }
     {
         BoxCause::Shelf(self.cause).number()
     }
+
+    /// Layer 2.
+    pub fn layer(self) -> u8
+        ensures { result ≡ (entry (Shelf self.cause)).layer }
+    {
+        BoxCause::Shelf(self.cause).layer()
+    }
 }
 
 impl BoxFault {
+    /// The number of the cause.
     pub fn number(self) -> u8
         ensures { result ≡ (entry self.cause).number }
     {
         self.cause.number()
     }
 
+    /// The layer of the cause.
     pub fn layer(self) -> u8
         ensures { result ≡ (entry self.cause).layer }
     {
         self.cause.layer()
     }
 
-    // The same fault with its place.
-    pub fn at(self, place: u32) -> BoxFault
+    /// The same fault with the place that the box adds.
+    pub fn placed(self, place: u32) -> BoxFault
         ensures { result ≡ placed place self }
     {
         BoxFault {
@@ -225,7 +244,7 @@ impl From<ShelfFault> for BoxFault {
 
 // `refused with 4, layer 2, place 7: no such place`
 impl fmt::Display for BoxFault {
-    ghost output = { λ f. Some (told f) };
+    ghost output = { λ f. Some (printed f) };
 
     fn fmt<W: fmt::Write>(&self, f: &mut fmt::Formatter<W>) -> fmt::Result {
         let number = self.number();
@@ -240,7 +259,7 @@ impl fmt::Display for BoxFault {
 }
 
 impl fmt::Display for ModeFault {
-    ghost output = { λ f. Some (told (from_mode f)) };
+    ghost output = { λ f. Some (printed (from_mode f)) };
 
     fn fmt<W: fmt::Write>(&self, f: &mut fmt::Formatter<W>) -> fmt::Result {
         let raised: BoxFault = (*self).into();
@@ -249,7 +268,7 @@ impl fmt::Display for ModeFault {
 }
 
 impl fmt::Display for ShelfFault {
-    ghost output = { λ f. Some (told (from_shelf f)) };
+    ghost output = { λ f. Some (printed (from_shelf f)) };
 
     fn fmt<W: fmt::Write>(&self, f: &mut fmt::Formatter<W>) -> fmt::Result {
         let raised: BoxFault = (*self).into();

@@ -1,13 +1,14 @@
 -- A file holds a message exactly where its parts open.
 use Rattle.std.proofs.Common.{◌≡◌, ℕ, zero, suc, ◌+◌, ◌<◌, ◌≤◌, List, ◌++◌, length, take, drop, Ok, Err, Result, sym, refl, ap, ◌∙◌, subst, ap₂, arith, lit<, lit≤}
 use Rattle.std.proofs.lemmas.List.{length-take, length-drop, take_at, drop_at, drop-drop}
+use Rattle.faults.specs.Causes.{mode_fault}
 use Rattle.faults.specs.declared.ModeCause.TheVariants.{Tag}
 use Rattle.faults.specs.declared.ModeFault.{ModeFault}
-use Rattle.saturnin.specs.Cube.{at}
-use Rattle.saturnin.specs.Meaning.{Bytes, BlockFunction, GivesBlocks}
+use Rattle.octets.specs.Lists.{at}
+use Rattle.cipher.specs.Meaning.{Bytes, BlockFunction, GivesBlocks}
 use Rattle.octets.specs.Octets.{Octets, zeros}
 use Rattle.octets.proofs.Numbers.{take-bytes}
-use Rattle.modes.specs.Cascade.{ctr, tag, Opens}
+use Rattle.modes.specs.Cascade.{ctr, tag, CascadeOpens}
 use Rattle.modes.proofs.Streams.{ctr_twice}
 use Rattle.modes.proofs.Blocks.{drop-bytes, tag-bytes, ctr-bytes}
 use Rattle.modes.proofs.Exactly.{stable_same}
@@ -85,10 +86,10 @@ module _ (f : BlockFunction) (key file : List ℕ) where
 -- an unlocking of a file of the right length, with the magic word, by what the opening of its parts answered
 module _ (f : BlockFunction) (gives : GivesBlocks f) (key file out : List ℕ) (kb : Octets key) (fb : Octets file) (answer : Result (Unit {0}) ModeFault) (out' : List ℕ) (ob : Octets out')
     (kl : length key ≡ 32) (fl : length file ≡ 56 + length out) (few : length out ≤ 65536) where
-  pub other_word : (take 4 file ≡ magic → ⊥) → answer ≡ Err (record { cause = Tag }) → out' ≡ zeros (length out) → Unlocks f key file out answer out'
+  pub other_word : (take 4 file ≡ magic → ⊥) → answer ≡ Err (mode_fault Tag) → out' ≡ zeros (length out) → Unlocks f key file out answer out'
   other_word differs e z = (λ h. absurd (h (kl, fl)), λ n. (λ h. absurd (omega arith), λ m. (λ no. (e, z), λ nn. absurd (nn (λ w. differs (held-magic f key file gives (kl, kb) fb w.0 w.1))))))
 
-  pub this_word : take 4 file ≡ magic → Opens f key (nonce_of f key file) magic (text_of f key file) (sign_of f key file) out answer out' → Unlocks f key file out answer out'
+  pub this_word : take 4 file ≡ magic → CascadeOpens f key (nonce_of f key file) magic (text_of f key file) (sign_of f key file) out answer out' → Unlocks f key file out answer out'
   this_word word opens =
       let rest = (opens.1 (λ k. k (kl, simp length-drop (omega arith), simp (length-take, length-drop) (omega arith)))).1 (λ k. k (simp (length-take, length-drop) (omega arith), lit≤ tt, simp length-drop (omega arith))) in
       let held : sign_of f key file ≡ tag f key (nonce_of f key file) magic (text_of f key file) → (answer ≡ Ok tt) × HoldsOnly f key file out' =

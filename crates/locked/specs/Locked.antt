@@ -1,13 +1,11 @@
 -- Locked files: their format, and the tables and results of locking and unlocking.
 use Rattle.std.specs.Prelude.{◌≡◌, ℕ, ◌+◌, ◌<◌, List, [], ◌∷◌, ◌++◌, length, Ok, Err, codes, Result}
-use Rattle.faults.specs.Causes.{left}
+use Rattle.faults.specs.Causes.{left, mode_fault, from_mode}
 use Rattle.faults.specs.Tables.{Table, By, Not}
-use Rattle.faults.specs.declared.ModeCause.{ModeCause}
 use Rattle.faults.specs.declared.ModeCause.TheVariants.{Length, Limit, Tag}
-use Rattle.faults.specs.declared.BoxCause.TheVariants.{Mode}
 use Rattle.faults.specs.declared.ModeFault.{ModeFault}
 use Rattle.octets.specs.Octets.{Octets}
-use Rattle.saturnin.specs.Meaning.{BlockFunction}
+use Rattle.cipher.specs.Meaning.{BlockFunction}
 use Rattle.modes.specs.Cascade.{ctr, tag}
 
 -- the word that a locked file begins with, which is also its associated data
@@ -21,14 +19,14 @@ locked f key nonce message =
     magic ++ (nonce ++ (tag f key nonce magic text ++ text))
 
 -- key, nonce, message and file buffer by their lengths
-abbrev pub lock_table : (key nonce message file : ℕ) → Table ModeCause
-lock_table key nonce message file = (Not ((key ≡ 32) × (nonce ≡ 20) × (file ≡ 56 + message)), Length) ∷ (65536 < message, Limit) ∷ []
+abbrev pub lock_table : (key nonce message file : ℕ) → Table ModeFault
+lock_table key nonce message file = (Not ((key ≡ 32) × (nonce ≡ 20) × (file ≡ 56 + message)), mode_fault Length) ∷ (65536 < message, mode_fault Limit) ∷ []
 
 -- a locking, by its answer and by what the file's buffer holds after it
 abbrev pub Locks : BlockFunction → (key nonce message file : List ℕ) → Result (Unit {0}) ModeFault → (file' : List ℕ) → Type 0
 Locks f key nonce message file answer file' =
     By (lock_table (length key) (length nonce) (length message) (length file))
-    (λ cause. (answer ≡ Err (record { cause = cause })) × (file' ≡ file))
+    (λ fault. (answer ≡ Err fault) × (file' ≡ file))
     ((answer ≡ Ok tt) × (file' ≡ locked f key nonce message))
 
 -- a file that locking this message under some nonce gives
@@ -44,16 +42,16 @@ HoldsOnly f key file message = Holds f key file message × ((other : List ℕ) �
 
 -- key, file, and the buffer for the message by its length; a file without a message is damaged, locked by another key, or no
 -- locked file
-abbrev pub unlock_table : BlockFunction → (key file : List ℕ) (out : ℕ) → Table ModeCause
+abbrev pub unlock_table : BlockFunction → (key file : List ℕ) (out : ℕ) → Table ModeFault
 unlock_table f key file out =
-    (Not ((length key ≡ 32) × (length file ≡ 56 + out)), Length)
-    ∷ (65536 < out, Limit)
-    ∷ (Not ((message : List ℕ) × Holds f key file message), Tag)
+    (Not ((length key ≡ 32) × (length file ≡ 56 + out)), mode_fault Length)
+    ∷ (65536 < out, mode_fault Limit)
+    ∷ (Not ((message : List ℕ) × Holds f key file message), mode_fault Tag)
     ∷ []
 
 -- an unlocking, by its answer and by what the buffer for the message holds after it
 abbrev pub Unlocks : BlockFunction → (key file out : List ℕ) → Result (Unit {0}) ModeFault → (out' : List ℕ) → Type 0
 Unlocks f key file out answer out' =
     By (unlock_table f key file (length out))
-    (λ cause. (answer ≡ Err (record { cause = cause })) × (out' ≡ left (Mode cause) out))
+    (λ fault. (answer ≡ Err fault) × (out' ≡ left (from_mode fault) out))
     ((answer ≡ Ok tt) × HoldsOnly f key file out')

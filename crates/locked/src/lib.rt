@@ -7,7 +7,7 @@ ghost use Rattle.locked.specs.Locked.{lock_table, Locks, Unlocks};
 use faults::{ModeCause, ModeFault};
 use modes::Cascade;
 use octets::paste;
-use saturnin::Cipher;
+use cipher::Cipher;
 
 const MAGIC: &[u8] = b"MGL1";
 

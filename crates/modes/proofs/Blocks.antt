@@ -3,7 +3,7 @@ use Rattle.std.proofs.Common.{◌≡◌, ℕ, zero, suc, ◌+◌, ◌*◌, ◌/�
 use lib.Bits.{xor_lt}
 use Rattle.std.proofs.lemmas.Bool.{cases_lt}
 use Rattle.std.proofs.lemmas.List.{length-take, length-drop, get_or-drop, get_or_past}
-use Rattle.saturnin.specs.Meaning.{Bytes, BlockFunction, GivesBlocks}
+use Rattle.cipher.specs.Meaning.{Bytes, BlockFunction, GivesBlocks}
 use Rattle.modes.specs.Bytes.{xor, padded, full_blocks, block_at, tail_of}
 use Rattle.modes.specs.Chains.{link, links, chain}
 use Rattle.modes.specs.Counters.{counter_block}

@@ -3,15 +3,15 @@ use Rattle.std.proofs.Common.{◌≡◌, ℕ, ◌+◌, ◌-◌, ◌<◌, ◌≤�
 use Rattle.std.proofs.lemmas.Bool.{cases_lt}
 use Rattle.std.proofs.lemmas.List.{length-append, take_at, drop_at, get_or-append_right, get_or_past}
 use Rattle.faults.specs.declared.BoxCause.TheVariants.{Mode}
-use Rattle.faults.specs.Causes.{left}
+use Rattle.faults.specs.Causes.{from_mode, left}
 use Rattle.faults.specs.Tables.{Clear}
 use Rattle.faults.specs.declared.ModeCause.{ModeCause}
 use Rattle.faults.specs.declared.ModeFault.{ModeFault}
 use Rattle.faults.proofs.Results.{never_both}
 use Rattle.faults.proofs.Tables.{done_from_clear, done_when, stable_eq}
-use Rattle.saturnin.specs.Meaning.{BlockFunction, Takes, TwoWay}
+use Rattle.cipher.specs.Meaning.{BlockFunction, Takes, TwoWay}
 use Rattle.modes.specs.Bytes.{padded}
-use Rattle.modes.specs.Short.{short, short_open_table, Holds, filled, ShortOpens, ShortSealsTo, ShortOpensExactly}
+use Rattle.modes.specs.Short.{short, short_open_table, BlockHolds, filled, ShortOpens, ShortSealsTo, ShortOpensExactly}
 use Rattle.modes.proofs.Texts.{length-padded, padded_front, padded-here, padded_after, padded-bytes}
 use Rattle.octets.specs.Octets.{Octets}
 use Rattle.octets.proofs.Numbers.{append-bytes}
@@ -30,7 +30,7 @@ padded_once m n e =
     sym (take_at m _ (length m) refl) ∙ ap (take (length m)) e ∙ ap (λ k. take k (padded 16 n)) l ∙ take_at n _ (length n) refl
 
 module _ (f g : BlockFunction) (two_way : TwoWay f g) (key nonce block : List ℕ) (kb : Octets key) (nb : Octets nonce) (bb : Octets block) where
-  same_message : length nonce ≡ 16 → (m n : List ℕ) → Holds g key nonce block m → Holds g key nonce block n → m ≡ n
+  same_message : length nonce ≡ 16 → (m n : List ℕ) → BlockHolds g key nonce block m → BlockHolds g key nonce block n → m ≡ n
   same_message l m n v w = padded_once m n (sym (drop_at nonce (padded 16 m) 16 l) ∙ ap (drop 16) (sym v.1 ∙ w.1) ∙ drop_at nonce (padded 16 n) 16 l)
 
   module _ (m : List ℕ) (w : ShortSealsTo f key nonce m block) where
@@ -50,24 +50,24 @@ module _ (f g : BlockFunction) (two_way : TwoWay f g) (key nonce block : List �
     }
 
     -- what sealing gives, turned back
-    turned : Holds g key nonce block m
+    turned : BlockHolds g key nonce block m
     unfolding short
     turned = (few, sym (two_way.only key 6 10 (nonce ++ padded 16 m) block takes (sym w.block_is)))
 
   module _ (out : List ℕ) (answer : Result ℕ ModeFault) (out' : List ℕ) (opens : ShortOpens g key nonce block out answer out') where
-    refused : ModeCause → Type 0
-    refused cause = (answer ≡ Err (record { cause = cause })) × (out' ≡ left (Mode cause) out)
+    refused : ModeFault → Type 0
+    refused fault = (answer ≡ Err fault) × (out' ≡ left (from_mode fault) out)
 
     done : Type 0
-    done = (message : List ℕ) × Holds g key nonce block message × (answer ≡ Ok (length message)) × (out' ≡ filled message)
+    done = (message : List ℕ) × BlockHolds g key nonce block message × (answer ≡ Ok (length message)) × (out' ≡ filled message)
 
     sound : (n : ℕ) → answer ≡ Ok n → (message : List ℕ) × ShortSealsTo f key nonce message block × (length message ≡ n) × (out' ≡ filled message)
     unfolding refused done short
     sound n h =
-        let w = done_when refused done (short_open_table g key nonce block out) (λ c r. never_both n (record { cause = c }) (sym h ∙ r.0)) opens in
+        let w = done_when refused done (short_open_table g key nonce block out) (λ c r. never_both n c (sym h ∙ r.0)) opens in
         let lengths = w.0.0 in
         let m : List ℕ = w.1.0 in
-        let holds : Holds g key nonce block m = w.1.1 in
+        let holds : BlockHolds g key nonce block m = w.1.1 in
         let kl : length key ≡ 32 = stable_eq (length key) 32 (λ n. lengths (λ p. n p.0)) in
         let nl : length nonce ≡ 16 = stable_eq (length nonce) 16 (λ n. lengths (λ p. n p.1)) in
         let bl : length block ≡ 32 = stable_eq (length block) 32 (λ n. lengths (λ p. n p.2)) in

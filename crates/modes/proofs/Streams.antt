@@ -6,8 +6,8 @@ use lib.Bits.{bit_xor, xor_assoc, xor_self, xor_zero_r}
 use Rattle.std.proofs.lemmas.List.{ext_get_or, get_or-set_same, get_or-set_other, length-take, length-drop, get_or-take, get_or-drop}
 use Rattle.octets.specs.Octets.{written}
 use Rattle.octets.proofs.Writes.{put_is, get_or-written, get_or-apart}
-use Rattle.saturnin.specs.Meaning.{BlockFunction}
-use Rattle.saturnin.proofs.Tables.{length-table, at_table, is_table}
+use Rattle.cipher.specs.Meaning.{BlockFunction}
+use Rattle.octets.proofs.Tables.{length-table, at_table, is_table}
 use Rattle.modes.specs.Cascade.{keystream, masked, ctr}
 
 module _ (f : BlockFunction) (key nonce xs : List ℕ) where

@@ -1,13 +1,11 @@
 -- CTR-Cascade: keystream, ciphertext, tag; the tables and results of sealing and opening.
 use Rattle.std.specs.Prelude.{◌≡◌, ℕ, ◌+◌, ◌/◌, ◌%◌, ◌≤◌, List, [], ◌∷◌, ◌++◌, length, Ok, Err, Result, bit_xor}
-use Rattle.faults.specs.Causes.{left}
+use Rattle.faults.specs.Causes.{left, mode_fault, from_mode}
 use Rattle.faults.specs.Tables.{Table, By, Not}
-use Rattle.faults.specs.declared.ModeCause.{ModeCause}
 use Rattle.faults.specs.declared.ModeCause.TheVariants.{Length, Limit, Tag}
-use Rattle.faults.specs.declared.BoxCause.TheVariants.{Mode}
 use Rattle.faults.specs.declared.ModeFault.{ModeFault}
-use Rattle.saturnin.specs.Cube.{at, table}
-use Rattle.saturnin.specs.Meaning.{BlockFunction}
+use Rattle.octets.specs.Lists.{at, table}
+use Rattle.cipher.specs.Meaning.{BlockFunction}
 use Rattle.modes.specs.Chains.{link, chain}
 use Rattle.modes.specs.Counters.{counter_block}
 
@@ -29,28 +27,28 @@ module _ (f : BlockFunction) (key nonce : List ℕ) where
   tag associated ciphertext = chain f 4 5 10 (chain f 2 3 10 (link f 2 10 key (counter_block nonce 0)) associated) ciphertext
 
 -- key, nonce, associated data, text, output buffer and tag by their lengths
-abbrev pub seal_table : (key nonce associated text out tag : ℕ) → Table ModeCause
-seal_table key nonce associated text out tag =
-    (Not ((key ≡ 32) × (out ≡ text) × (tag ≡ 32)), Length)
-    ∷ (Not ((nonce ≤ 20) × (associated ≤ 65536) × (text ≤ 65536)), Limit)
+abbrev pub cascade_table : (key nonce associated text out tag : ℕ) → Table ModeFault
+cascade_table key nonce associated text out tag =
+    (Not ((key ≡ 32) × (out ≡ text) × (tag ≡ 32)), mode_fault Length)
+    ∷ (Not ((nonce ≤ 20) × (associated ≤ 65536) × (text ≤ 65536)), mode_fault Limit)
     ∷ []
 
 -- a sealing, by its answer and by what the buffers of ciphertext and tag hold after it
-abbrev pub Seals : BlockFunction → (key nonce associated message out sign : List ℕ) → Result (Unit {0}) ModeFault → (out' sign' : List ℕ) → Type 0
-Seals f key nonce associated message out sign answer out' sign' =
-    By (seal_table (length key) (length nonce) (length associated) (length message) (length out) (length sign))
-    (λ cause. (answer ≡ Err (record { cause = cause })) × (out' ≡ out) × (sign' ≡ sign))
+abbrev pub CascadeSeals : BlockFunction → (key nonce associated message out sign : List ℕ) → Result (Unit {0}) ModeFault → (out' sign' : List ℕ) → Type 0
+CascadeSeals f key nonce associated message out sign answer out' sign' =
+    By (cascade_table (length key) (length nonce) (length associated) (length message) (length out) (length sign))
+    (λ fault. (answer ≡ Err fault) × (out' ≡ out) × (sign' ≡ sign))
     ((answer ≡ Ok tt) × (out' ≡ ctr f key nonce message) × (sign' ≡ tag f key nonce associated (ctr f key nonce message)))
 
 -- the same, and then whether the tag is the right one
-abbrev pub open_table : BlockFunction → (key nonce associated text sign out : List ℕ) → Table ModeCause
-open_table f key nonce associated text sign out =
-    seal_table (length key) (length nonce) (length associated) (length text) (length out) (length sign)
-    ++ ((Not (sign ≡ tag f key nonce associated text), Tag) ∷ [])
+abbrev pub cascade_open_table : BlockFunction → (key nonce associated text sign out : List ℕ) → Table ModeFault
+cascade_open_table f key nonce associated text sign out =
+    cascade_table (length key) (length nonce) (length associated) (length text) (length out) (length sign)
+    ++ ((Not (sign ≡ tag f key nonce associated text), mode_fault Tag) ∷ [])
 
 -- an opening, by its answer and by what the buffer for the message holds after it
-abbrev pub Opens : BlockFunction → (key nonce associated text sign out : List ℕ) → Result (Unit {0}) ModeFault → (out' : List ℕ) → Type 0
-Opens f key nonce associated text sign out answer out' =
-    By (open_table f key nonce associated text sign out)
-    (λ cause. (answer ≡ Err (record { cause = cause })) × (out' ≡ left (Mode cause) out))
+abbrev pub CascadeOpens : BlockFunction → (key nonce associated text sign out : List ℕ) → Result (Unit {0}) ModeFault → (out' : List ℕ) → Type 0
+CascadeOpens f key nonce associated text sign out answer out' =
+    By (cascade_open_table f key nonce associated text sign out)
+    (λ fault. (answer ≡ Err fault) × (out' ≡ left (from_mode fault) out))
     ((answer ≡ Ok tt) × (out' ≡ ctr f key nonce text))

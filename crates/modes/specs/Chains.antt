@@ -1,9 +1,10 @@
 -- Chains of blocks over any block function f. The chain value is the key under which the next block goes.
 use Rattle.std.specs.Prelude.{◌≡◌, ℕ, zero, suc, ◌<◌, List, [], ◌∷◌, length, Ok, Err, Result}
+use Rattle.faults.specs.Causes.{mode_fault, left}
 use Rattle.faults.specs.Tables.{By, Not}
 use Rattle.faults.specs.declared.ModeCause.TheVariants.{Length, Limit}
 use Rattle.faults.specs.declared.ModeFault.{ModeFault}
-use Rattle.saturnin.specs.Meaning.{BlockFunction}
+use Rattle.cipher.specs.Meaning.{BlockFunction}
 use Rattle.modes.specs.Bytes.{xor, padded, full_blocks, block_at, tail_of}
 
 module _ (f : BlockFunction) where
@@ -23,13 +24,13 @@ module _ (f : BlockFunction) where
   -- a chain takes a block: its value before and after
   abbrev pub TakesBlock : (D R : ℕ) (bytes before : List ℕ) → Result (Unit {0}) ModeFault → List ℕ → Type 0
   TakesBlock D R bytes before answer after =
-      By ((Not (length bytes ≡ 32), Length) ∷ [])
-      (λ cause. (answer ≡ Err (record { cause = cause })) × (after ≡ before))
+      By ((Not (length bytes ≡ 32), mode_fault Length) ∷ [])
+      (λ fault. (answer ≡ Err fault) × (after ≡ before))
       ((answer ≡ Ok tt) × (after ≡ link D R before bytes))
 
 -- a chain is told its tail: what it holds of a tail, padded, before and after; a later tail replaces an earlier one
 abbrev pub TakesTail : (bytes before : List ℕ) → Result (Unit {0}) ModeFault → List ℕ → Type 0
 TakesTail bytes before answer after =
-    By ((31 < length bytes, Limit) ∷ [])
-    (λ cause. (answer ≡ Err (record { cause = cause })) × (after ≡ before))
+    By ((31 < length bytes, mode_fault Limit) ∷ [])
+    (λ fault. (answer ≡ Err fault) × (after ≡ before))
     ((answer ≡ Ok tt) × (after ≡ padded 32 bytes))

@@ -1,7 +1,7 @@
 -- Counter blocks: what they are, and what they are as numbers.
 use Rattle.std.specs.Prelude.{◌≡◌, ℕ, ◌/◌, ◌%◌, ◌^◌, ◌<◌, List, [], ◌∷◌, length, Ok, Err, Result}
+use Rattle.faults.specs.Causes.{mode_fault}
 use Rattle.faults.specs.Tables.{Table, By}
-use Rattle.faults.specs.declared.ModeCause.{ModeCause}
 use Rattle.faults.specs.declared.ModeCause.TheVariants.{Limit}
 use Rattle.faults.specs.declared.ModeFault.{ModeFault}
 use Rattle.octets.specs.Octets.{big_endian, spelt}
@@ -18,12 +18,12 @@ pub record CounterHeld (nonce : List ℕ) (counter : ℕ) : Type 0 where
   pub before : spelt (counter_block nonce counter) 0 / 2 ^ 95 ≡ spelt (padded 32 nonce) 0 / 2 ^ 95
 
 -- nonce by its length
-abbrev pub counter_table : (nonce : ℕ) → Table ModeCause
-counter_table nonce = (20 < nonce, Limit) ∷ []
+abbrev pub counter_table : (nonce : ℕ) → Table ModeFault
+counter_table nonce = (20 < nonce, mode_fault Limit) ∷ []
 
 -- a call for a counter block, by its answer; `bytes` are those of the block that was made
 abbrev pub Counts : {Block : Type 0} → (bytes : Block → List ℕ) (nonce : List ℕ) (counter : ℕ) → Result Block ModeFault → Type 0
 Counts {Block} bytes nonce counter answer =
     By (counter_table (length nonce))
-    (λ cause. answer ≡ Err (record { cause = cause }))
+    (λ fault. answer ≡ Err fault)
     ((block : Block) × (answer ≡ Ok block) × (bytes block ≡ counter_block nonce counter) × CounterHeld nonce counter)

@@ -1,12 +1,10 @@
 -- Short: its block, the tables and results of sealing and opening, and that opening is exact.
 use Rattle.std.specs.Prelude.{◌≡◌, ℕ, ◌-◌, ◌<◌, ◌≤◌, List, [], ◌∷◌, ◌++◌, length, Ok, Err, Result}
-use Rattle.faults.specs.Causes.{left}
+use Rattle.faults.specs.Causes.{left, mode_fault, from_mode}
 use Rattle.faults.specs.Tables.{Table, By, Not, Clear}
-use Rattle.faults.specs.declared.ModeCause.{ModeCause}
-use Rattle.faults.specs.declared.ModeCause.TheVariants.{Length, Limit, Slip}
-use Rattle.faults.specs.declared.BoxCause.TheVariants.{Mode}
+use Rattle.faults.specs.declared.ModeCause.TheVariants.{Length, Limit, Padding}
 use Rattle.faults.specs.declared.ModeFault.{ModeFault}
-use Rattle.saturnin.specs.Meaning.{BlockFunction}
+use Rattle.cipher.specs.Meaning.{BlockFunction}
 use Rattle.octets.specs.Octets.{Octets, zeros}
 use Rattle.modes.specs.Bytes.{padded}
 
@@ -15,24 +13,24 @@ unfoldable pub short : BlockFunction → (key nonce message : List ℕ) → List
 short f key nonce message = f key 6 10 (nonce ++ padded 16 message)
 
 -- key, nonce, message and block by their lengths
-abbrev pub short_table : (key nonce message block : ℕ) → Table ModeCause
-short_table key nonce message block = (Not ((key ≡ 32) × (nonce ≡ 16) × (block ≡ 32)), Length) ∷ (15 < message, Limit) ∷ []
+abbrev pub short_table : (key nonce message block : ℕ) → Table ModeFault
+short_table key nonce message block = (Not ((key ≡ 32) × (nonce ≡ 16) × (block ≡ 32)), mode_fault Length) ∷ (15 < message, mode_fault Limit) ∷ []
 
 -- a sealing, by its answer and by what the block's buffer holds after it
 abbrev pub ShortSeals : BlockFunction → (key nonce message block : List ℕ) → Result (Unit {0}) ModeFault → (block' : List ℕ) → Type 0
 ShortSeals f key nonce message block answer block' =
     By (short_table (length key) (length nonce) (length message) (length block))
-    (λ cause. (answer ≡ Err (record { cause = cause })) × (block' ≡ block))
+    (λ fault. (answer ≡ Err fault) × (block' ≡ block))
     ((answer ≡ Ok tt) × (block' ≡ short f key nonce message))
 
 -- the block, turned back, is this nonce and this message, padded
-abbrev pub Holds : BlockFunction → (key nonce block message : List ℕ) → Type 0
-Holds back key nonce block message = (length message ≤ 15) × (back key 6 10 block ≡ nonce ++ padded 16 message)
+abbrev pub BlockHolds : BlockFunction → (key nonce block message : List ℕ) → Type 0
+BlockHolds back key nonce block message = (length message ≤ 15) × (back key 6 10 block ≡ nonce ++ padded 16 message)
 
-abbrev pub short_open_table : BlockFunction → (key nonce block out : List ℕ) → Table ModeCause
+abbrev pub short_open_table : BlockFunction → (key nonce block out : List ℕ) → Table ModeFault
 short_open_table back key nonce block out =
-    (Not ((length key ≡ 32) × (length nonce ≡ 16) × (length block ≡ 32) × (length out ≡ 15)), Length)
-    ∷ (Not ((message : List ℕ) × Holds back key nonce block message), Slip)
+    (Not ((length key ≡ 32) × (length nonce ≡ 16) × (length block ≡ 32) × (length out ≡ 15)), mode_fault Length)
+    ∷ (Not ((message : List ℕ) × BlockHolds back key nonce block message), mode_fault Padding)
     ∷ []
 
 -- what the buffer of 15 bytes holds of a message: the message, then zeros
@@ -43,8 +41,8 @@ filled message = message ++ zeros (15 - length message)
 abbrev pub ShortOpens : BlockFunction → (key nonce block out : List ℕ) → Result ℕ ModeFault → (out' : List ℕ) → Type 0
 ShortOpens back key nonce block out answer out' =
     By (short_open_table back key nonce block out)
-    (λ cause. (answer ≡ Err (record { cause = cause })) × (out' ≡ left (Mode cause) out))
-    ((message : List ℕ) × Holds back key nonce block message × (answer ≡ Ok (length message)) × (out' ≡ filled message))
+    (λ fault. (answer ≡ Err fault) × (out' ≡ left (from_mode fault) out))
+    ((message : List ℕ) × BlockHolds back key nonce block message × (answer ≡ Ok (length message)) × (out' ≡ filled message))
 
 -- sealing this message is not refused and gives this block
 pub record ShortSealsTo (f : BlockFunction) (key nonce message block : List ℕ) : Type 0 where

@@ -1,13 +1,13 @@
 ghost use Rattle.std.specs.Prelude.{◌≡◌, ℕ, ◌<◌, ◌≤◌, length};
 ghost use Rattle.faults.specs.Tables.{Checks};
-ghost use Rattle.modes.specs.Cascade.{keystream, ctr as masked_by, tag as tag_value, seal_table, Seals, Opens};
-ghost use Rattle.modes.specs.Exact.{OpensExactly};
+ghost use Rattle.modes.specs.Cascade.{keystream, ctr as masked_by, tag as tag_value, cascade_table, CascadeSeals, CascadeOpens};
+ghost use Rattle.modes.specs.Exact.{CascadeOpensExactly};
 
 use crate::bytes::{add, same};
 use crate::chains::DataChain;
 use crate::counters::Nonce;
+use cipher::{Cipher, Parameters};
 use faults::{ModeCause, ModeFault};
-use saturnin::{Cipher, Parameters};
 
 // What a text is sealed under: a key of 32 bytes, a nonce of at most 20, and associated data.
 #[derive(Drop)]
@@ -19,9 +19,9 @@ pub struct Cascade<'a, C> {
 }
 
 impl<C: Cipher> Cascade<'_, C> {
-    // Seals a message: the ciphertext goes into `out`, which is as long as the message, and the tag of 32 bytes into `tag`.
+    // CascadeSeals a message: the ciphertext goes into `out`, which is as long as the message, and the tag of 32 bytes into `tag`.
     pub fn seal(&self, message: &[u8], out: &mut [u8], tag: &mut [u8]) -> Result<(), ModeFault>
-        ensures { Seals (C.Cipher.forward self.now.cipher.now) self.now.key.now self.now.nonce.now self.now.associated.now message.now out.old tag.old result out.new tag.new }
+        ensures { CascadeSeals (C.Cipher.forward self.now.cipher.now) self.now.key.now self.now.nonce.now self.now.associated.now message.now out.old tag.old result out.new tag.new }
     {
         let under = self.taken(message.len(), out.len(), tag.len())?;
         out.copy_from_slice(message);
@@ -30,17 +30,17 @@ impl<C: Cipher> Cascade<'_, C> {
         Ok(())
     }
 
-    // Opens a ciphertext into `out`, which is as long; where the tag differs, `out` becomes zero.
+    // CascadeOpens a ciphertext into `out`, which is as long; where the tag differs, `out` becomes zero.
     pub fn open(&self, text: &[u8], tag: &[u8], out: &mut [u8]) -> Result<(), ModeFault>
-        ensures opens { Opens (C.Cipher.forward self.now.cipher.now) self.now.key.now self.now.nonce.now self.now.associated.now text.now tag.now out.old result out.new }
-        ensures exactly { OpensExactly (C.Cipher.forward self.now.cipher.now) self.now.key.now self.now.nonce.now self.now.associated.now text.now tag.now out.old result out.new }
+        ensures opens { CascadeOpens (C.Cipher.forward self.now.cipher.now) self.now.key.now self.now.nonce.now self.now.associated.now text.now tag.now out.old result out.new }
+        ensures exactly { CascadeOpensExactly (C.Cipher.forward self.now.cipher.now) self.now.key.now self.now.nonce.now self.now.associated.now text.now tag.now out.old result out.new }
     {
         self.opened(text, tag, out)
     }
 
     // What the call does; that it is exact follows from it.
     fn opened(&self, text: &[u8], tag: &[u8], out: &mut [u8]) -> Result<(), ModeFault>
-        ensures { Opens (C.Cipher.forward self.now.cipher.now) self.now.key.now self.now.nonce.now self.now.associated.now text.now tag.now out.old result out.new }
+        ensures { CascadeOpens (C.Cipher.forward self.now.cipher.now) self.now.key.now self.now.nonce.now self.now.associated.now text.now tag.now out.old result out.new }
     {
         let Ok(tag) = tag.try_into() else {
             return Err(ModeCause::Length.into());
@@ -58,7 +58,7 @@ impl<C: Cipher> Cascade<'_, C> {
     // Whether all lengths are right, also those of the text, the output buffer and the tag. The limits stand here, as in each
     // check, since a table of refusals names them: a type of short texts would ask of callers what is refused here.
     fn taken(&self, text: usize, out: usize, tag: usize) -> Result<Keyed<'_, C>, ModeFault>
-        ensures { Checks (seal_table (length self.now.key.now) (length self.now.nonce.now) (length self.now.associated.now) text out tag)
+        ensures { Checks (cascade_table (length self.now.key.now) (length self.now.nonce.now) (length self.now.associated.now) text out tag)
             (λ k. (k.cipher.now ≡ self.now.cipher.now) × (k.key.now ≡ self.now.key.now) × (k.nonce.bytes.now ≡ self.now.nonce.now) × (length self.now.nonce.now ≤ 20)
             × (length self.now.key.now ≡ 32) × (out ≡ text) × (tag ≡ 32) × (length self.now.associated.now ≤ 65536) × (text ≤ 65536)) result }
     {
@@ -94,8 +94,14 @@ impl<C: Cipher> Keyed<'_, C> {
         ensures { result ≡ keystream (C.Cipher.forward self.now.cipher.now) self.now.key.now self.now.nonce.bytes.now i }
     {
         let counter = self.nonce.counted(i as u64 + 1);
-        self.cipher
-            .encrypt_block(self.key, Parameters { d: 1, r: 10 }, &counter.bytes)
+        self.cipher.encrypt_block(
+            self.key,
+            Parameters {
+                separator: 1,
+                super_rounds: 10,
+            },
+            &counter.bytes,
+        )
     }
 
     // Counter mode, in place, block by block; the last one may be short.

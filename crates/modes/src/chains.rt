@@ -4,13 +4,13 @@ ghost use Rattle.modes.specs.Chains.{link as linked, links, TakesBlock, TakesTai
 
 use crate::bytes::{pad, xor};
 use crate::counters::CounterBlock;
+use cipher::{Cipher, Parameters};
 use faults::{ModeCause, ModeFault};
-use saturnin::{Cipher, Parameters};
 
 // Block `a` replaces the chain value `t`.
 #[tactic(auto, unfolding(crate::specs::Chains::link))]
 fn link<C: Cipher>(cipher: &C, by: Parameters, t: &[u8; 32], a: &[u8; 32]) -> [u8; 32]
-    ensures { result ≡ linked (C.Cipher.forward cipher.now) by.d by.r t.now a.now }
+    ensures { result ≡ linked (C.Cipher.forward cipher.now) by.separator by.«super_rounds» t.now a.now }
 {
     xor(a, &cipher.encrypt_block(t, by, a))
 }
@@ -53,7 +53,15 @@ impl<'a, C: Cipher, const D: u8, const LAST: u8, const R: u8> Chain<'a, C, D, LA
         ensures value { self.new.value ≡ linked (C.Cipher.forward self.old.cipher.now) D R self.old.value block.now }
         ensures tail { self.new.tail ≡ self.old.tail }
     {
-        self.value = link(self.cipher, Parameters { d: D, r: R }, &self.value, block);
+        self.value = link(
+            self.cipher,
+            Parameters {
+                separator: D,
+                super_rounds: R,
+            },
+            &self.value,
+            block,
+        );
     }
 
     fn block(&mut self, bytes: &[u8]) -> Result<(), ModeFault>
@@ -97,7 +105,10 @@ impl<'a, C: Cipher, const D: u8, const LAST: u8, const R: u8> Chain<'a, C, D, LA
     pub(crate) fn end(self) -> [u8; 32]
         ensures { result ≡ linked (C.Cipher.forward self.entry.cipher.now) LAST R self.entry.value self.entry.tail }
     {
-        let by = Parameters { d: LAST, r: R };
+        let by = Parameters {
+            separator: LAST,
+            super_rounds: R,
+        };
         link(self.cipher, by, &self.value, &self.tail)
     }
 }
@@ -109,7 +120,10 @@ impl<'a, C: Cipher> DataChain<'a, C> {
         ensures value { result.value ≡ linked (C.Cipher.forward cipher.now) 2 10 key.now counter.now.bytes }
         ensures tail { result.tail ≡ padded 32 [] }
     {
-        let by = Parameters { d: 2, r: 10 };
+        let by = Parameters {
+            separator: 2,
+            super_rounds: 10,
+        };
         Chain::from(cipher, link(cipher, by, key, &counter.bytes))
     }
 

@@ -3,8 +3,8 @@ ghost use Rattle.faults.specs.Tables.{Checks};
 ghost use Rattle.modes.specs.Hash.{hash as hashed, hash_table, Hashes};
 
 use crate::chains::Chain;
+use cipher::Cipher;
 use faults::{ModeCause, ModeFault};
-use saturnin::Cipher;
 
 // The digest of at most 65,536 bytes, into a buffer of 32.
 pub fn hash<C: Cipher>(cipher: &C, message: &[u8], digest: &mut [u8]) -> Result<(), ModeFault>

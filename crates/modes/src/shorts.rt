@@ -3,11 +3,14 @@ ghost use Rattle.modes.specs.Bytes.{padded};
 ghost use Rattle.modes.specs.Short.{ShortSeals, ShortOpens, ShortOpensExactly};
 
 use crate::bytes::pad;
+use cipher::{Parameters, TwoWayCipher};
 use faults::{ModeCause, ModeFault};
 use octets::joined;
-use saturnin::{Parameters, TwoWayCipher};
 
-const SHORT: Parameters = Parameters { d: 6, r: 10 };
+const SHORT: Parameters = Parameters {
+    separator: 6,
+    super_rounds: 10,
+};
 
 // Key and nonce are handed in as slices of their own. As fields of a struct, which was tried, they were not known to be bytes.
 // That `open_short` is exact rests on it, since it turns the block back, which CTR-Cascade never does; a ghost field that says
@@ -72,7 +75,7 @@ fn opened<C: TwoWayCipher>(
     let plain = cipher.decrypt_block(key, SHORT, block);
     out.fill(0);
     let Some(n) = message_length(nonce, &plain) else {
-        return Err(ModeCause::Slip.into());
+        return Err(ModeCause::Padding.into());
     };
     out[..n].copy_from_slice(&plain[16..16 + n]);
     Ok(n)

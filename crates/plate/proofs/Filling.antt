@@ -4,10 +4,11 @@ use borrow.Rule.Slice.PartMut.{put_mid}
 use Rattle.std.proofs.lemmas.List.{length-append, length-take, length-drop, drop_all, append-nil}
 use Rattle.octets.specs.Octets.{written, big_endian}
 use Rattle.octets.proofs.Writes.{put_is, length-written, written-before}
-use Rattle.shelf.specs.Meaning.{Answers, Puts, put_table}
-use Rattle.shelf.specs.Plates.{cells, mark, NoMarkAbove, Fit, used, plate, PlateStores}
+use Rattle.faults.specs.Tables.{Clear}
+use Rattle.shelf.specs.Meaning.{Puts, put_table}
+use Rattle.plate.specs.Plates.{cells, mark, NoMarkAbove, Fit, used, plate, PlateStores}
 use Rattle.shelf.proofs.Tables.{put_allowed}
-use Rattle.shelf.proofs.Plates as plates
+use Rattle.plate.proofs.Putting as plates
 
 -- no used cell after an unused one, on a plate that has places
 abbrev pub InOrder : (memory : List ℕ) (places : ℕ) → Type 0
@@ -31,7 +32,7 @@ pub record PutOnPlate (memory bytes : List ℕ) (places n p : ℕ) (memory' : Li
 -- n is the count of used cells, and the put was allowed
 module _ (memory bytes : List ℕ) (places n p : ℕ) (few : places ≤ 4096) (counted : n ≡ used memory (cells memory))
     (marks : 0 < places → NoMarkAbove memory places) (order : InOrder memory places)
-    (allowed : Answers (put_table (plate memory places) p (length bytes)) (Some p) (Ok tt)) where
+    (allowed : Clear (put_table (plate memory places) p (length bytes))) where
   inside : p < places
   inside = (put_allowed (plate memory places) p (length bytes) allowed).1
 

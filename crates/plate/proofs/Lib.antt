@@ -1,2 +1,4 @@
+pub mod Marks
+pub mod Putting
 pub mod Ranges
 pub mod Filling

@@ -1,1 +1,2 @@
+pub mod Plates
 pub mod Neighbours

@@ -1,5 +1,5 @@
 ghost use Rattle.std.specs.Prelude.{◌≡◌, ℕ, ◌<◌, ◌≤◌, MatchBool};
-ghost use Rattle.shelf.specs.Plates.{plate_cells, cells, mark as mark_of, NoMarkAbove, used, last_cell};
+ghost use Rattle.plate.specs.Plates.{plate_cells, cells, mark as mark_of, NoMarkAbove, used, last_cell};
 ghost use Rattle.plate.specs.Neighbours.{GapAfter, NoGapAfterAny};
 
 // How many cells a memory of this size has.

@@ -1,8 +1,7 @@
 ghost use Rattle.std.specs.Prelude.{◌≡◌, ℕ, ◌<◌, ◌≤◌, None, T};
-ghost use Rattle.faults.specs.Tables.{By};
-ghost use Rattle.shelf.specs.Meaning.{Answers};
-ghost use Rattle.shelf.specs.Plates.{cells, mark, NoMarkAbove, fit_table, used as used_of, Remains, LastCell, held, plate, PlateStores};
-ghost use Rattle.shelf.proofs.Plates.{plate_lawful};
+ghost use Rattle.faults.specs.Tables.{By, Checks, Clear};
+ghost use Rattle.plate.specs.Plates.{cells, mark, NoMarkAbove, fit_table, used as used_of, Remains, LastCell, held, plate, PlateStores};
+ghost use Rattle.plate.proofs.Putting.{plate_lawful};
 
 use crate::cells::{cells_in, count_used, has_gap, last_cell_of, marks_fit};
 use faults::{ShelfCause, ShelfFault};
@@ -25,7 +24,7 @@ pub struct Plate<'a> {
 impl<'a> Plate<'a> {
     // The check before the making.
     pub fn check(memory: &[u8], places: u32) -> Result<(), ShelfFault>
-        ensures { Answers (fit_table memory.now places) None result }
+        ensures { let rows = fit_table memory.now places in Checks rows (λ _. Clear rows) result }
     {
         match places {
             1..=4096 if marks_fit(memory, places) && !has_gap(memory) => Ok(()),

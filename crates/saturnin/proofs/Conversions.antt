@@ -3,10 +3,11 @@ use Rattle.std.proofs.Common.{◌≡◌, ℕ, zero, suc, ◌+◌, ◌*◌, ◌/�
 use Rattle.std.proofs.lemmas.List.{ext_get_or, get_or_past}
 use Rattle.std.proofs.lemmas.Bool.{cases_lt}
 use Rattle.saturnin.specs.Bits.{bit, nibble}
-use Rattle.saturnin.specs.Cube.{at, register, to_cube, cube_register, from_cube}
-use Rattle.saturnin.specs.Meaning.{Bytes}
+use Rattle.octets.specs.Lists.{at}
+use Rattle.saturnin.specs.Cube.{register, to_cube, cube_register, from_cube}
+use Rattle.cipher.specs.Meaning.{Bytes}
 use Rattle.saturnin.proofs.Bits.{bit_lt}
-use Rattle.saturnin.proofs.Tables.{at_table, length-table}
+use Rattle.octets.proofs.Tables.{at_table, length-table}
 use Rattle.saturnin.proofs.Numbers.{number_same, number_bit, number_lt, bit-number, nibble_bits, nibble_lt, bit-nibble}
 use Rattle.saturnin.proofs.Inverse.{Good, good_cube, cube_is}
 

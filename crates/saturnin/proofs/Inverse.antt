@@ -3,12 +3,13 @@ use Rattle.std.proofs.Common.{◌≡◌, ℕ, ◌+◌, ◌*◌, ◌/◌, ◌%◌
 use lib.Bits.{bit_xor, xor_assoc, xor_comm, xor_self, xor_zero_r, xor_lt}
 use Rattle.std.proofs.lemmas.List.{ext_get_or}
 use Rattle.saturnin.specs.Bits.{bit, nibble}
-use Rattle.saturnin.specs.Cube.{at, cube}
+use Rattle.octets.specs.Lists.{at}
+use Rattle.saturnin.specs.Cube.{cube}
 use Rattle.saturnin.specs.Layers.{σ₀, σ₁, S, slice_to, slice_from, SR_slice, SR_slice⁻¹, sheet_to, sheet_from, SR_sheet, SR_sheet⁻¹, SR, SR⁻¹, α, M_row, MC, add}
 use Rattle.saturnin.specs.Rounds.{constants, rotated}
 use Rattle.saturnin.specs.Back.{σ₀⁻¹, σ₁⁻¹, S⁻¹, α⁻¹, M⁻¹_row, MC⁻¹}
 use Rattle.saturnin.proofs.Bits.{below, at_below, same_below, bit_lt}
-use Rattle.saturnin.proofs.Tables.{at_table, same_table, length-table}
+use Rattle.octets.proofs.Tables.{at_table, same_table, length-table}
 use Rattle.saturnin.proofs.Numbers.{four}
 use Rattle.saturnin.proofs.Matrix.{row0, row1, row2, row3}
 

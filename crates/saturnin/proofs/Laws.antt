@@ -4,7 +4,7 @@ use Rattle.saturnin.specs.Cube.{Cube, to_cube}
 use Rattle.saturnin.specs.Layers.{S, SR, SR⁻¹, MC, add}
 use Rattle.saturnin.specs.Rounds.{RC₀, RC₁, constants, rotated, round_key, add_subkey, round, rounds, forward}
 use Rattle.saturnin.specs.Back.{MC⁻¹, round⁻¹, rounds⁻¹, back}
-use Rattle.saturnin.specs.Meaning.{Bytes, GivesBlocks, TwoWay}
+use Rattle.cipher.specs.Meaning.{Bytes, GivesBlocks, TwoWay}
 use Rattle.saturnin.proofs.Inverse.{Good, S_good, S⁻¹_good, S_undone, S_redone, SR_good, SR⁻¹_good, SR_undone, SR_redone, rotated_good, add_good, add_undone, constants_good, MC_good, MC⁻¹_good, MC_undone, MC_redone}
 use Rattle.saturnin.proofs.Conversions.{to-cube-good, from-cube-bytes, to-from, from-to}
 

@@ -1,5 +1,4 @@
 pub mod Bits
-pub mod Tables
 pub mod Places
 pub mod Numbers
 pub mod Clocks
@@ -8,6 +7,5 @@ pub mod Inverse
 pub mod Conversions
 pub mod Laws
 pub mod TwoRounds
-pub mod Made
 pub mod Schedules
 pub mod Turns

@@ -1,8 +1,9 @@
 -- Cubes that are made from places of a cube.
 use Rattle.std.proofs.Common.{◌≡◌, ℕ, List, T, eqb, ap}
-use Rattle.saturnin.specs.Cube.{at, cube}
+use Rattle.octets.specs.Lists.{at}
+use Rattle.saturnin.specs.Cube.{cube}
 use Rattle.saturnin.proofs.Bits.{below, same_below}
-use Rattle.saturnin.proofs.Tables.{same_table}
+use Rattle.octets.proofs.Tables.{same_table}
 
 -- nibbles from the same places
 pub same_places : (s : List ℕ) (f g : ℕ → ℕ) → T (below (λ i. eqb (f i) (g i)) 64) → cube (λ i. at s (f i)) ≡ cube (λ i. at s (g i))

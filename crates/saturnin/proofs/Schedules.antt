@@ -2,11 +2,11 @@
 use Rattle.std.proofs.Common.{◌≡◌, ℕ, ◌<◌, ◌≤◌, List, length, map, get_or, take, sym, ap, ◌∙◌, arith}
 use Rattle.std.proofs.lemmas.List.{get_or-map, length-map, take-map}
 use Rattle.std.proofs.lemmas.List.FromFn.{take-map-range_with_len}
-use Rattle.saturnin.specs.Cube.{table, at}
+use Rattle.octets.specs.Lists.{table, at}
 use Rattle.saturnin.specs.Rounds.{RC₀, RC₁}
 use Rattle.saturnin.specs.Schedules.{Scheduled}
 use Rattle.saturnin.specs.declared.schedule.RoundConstants.{RoundConstants}
-use Rattle.saturnin.proofs.Tables.{at_table, length-table}
+use Rattle.octets.proofs.Tables.{at_table, length-table}
 
 module _ (D R n : ℕ) (cs : List RoundConstants) (by : Scheduled D R n cs) where
   pub long : length cs ≡ n

@@ -2,7 +2,8 @@
 -- takes to the given one.
 use Rattle.std.specs.Prelude.{ℕ, zero, suc, ◌+◌, ◌*◌, ◌/◌, ◌%◌, cond, List, [], ◌∷◌, ◌==◌, bit_xor}
 use Rattle.saturnin.specs.Bits.{bit, nibble}
-use Rattle.saturnin.specs.Cube.{Cube, cube, at, to_cube, from_cube}
+use Rattle.octets.specs.Lists.{at}
+use Rattle.saturnin.specs.Cube.{Cube, cube, to_cube, from_cube}
 use Rattle.saturnin.specs.Layers.{SR, SR⁻¹, add}
 use Rattle.saturnin.specs.Rounds.{add_subkey}
 

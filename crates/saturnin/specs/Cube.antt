@@ -1,15 +1,8 @@
 -- A block, a key or a state, in its representations: 32 bytes, sixteen 16-bit registers, eight 32-bit words, and the cube of
 -- 4 by 4 by 4 nibbles.
-use Rattle.std.specs.Prelude.{ℕ, ◌+◌, ◌*◌, ◌/◌, ◌%◌, List, [], ◌∷◌, map, slice_index}
-use Rattle.std.specs.List.{range_with_len}
+use Rattle.std.specs.Prelude.{ℕ, ◌+◌, ◌*◌, ◌/◌, ◌%◌, List, [], ◌∷◌}
+use Rattle.octets.specs.Lists.{at, table}
 use Rattle.saturnin.specs.Bits.{bit, nibble, number}
-
--- element i of a list of numbers, and the list of the n numbers f 0, f 1, ..
-abbrev pub at : List ℕ → ℕ → ℕ
-at s i = slice_index s i
-
-unfoldable pub table : (n : ℕ) (f : ℕ → ℕ) → List ℕ
-table n f = map f (range_with_len 0 n)
 
 -- a cube is the list of its 64 nibbles by index; nibble (x, y, z) has index y + 4x + 16z
 abbrev pub Cube : Type 0

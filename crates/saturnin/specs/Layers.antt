@@ -1,7 +1,8 @@
 -- The steps of a round, each on the whole cube.
 use Rattle.std.specs.Prelude.{ℕ, ◌+◌, ◌-◌, ◌*◌, ◌/◌, ◌%◌, cond, List, [], ◌∷◌, ◌==◌, bit_xor}
 use Rattle.saturnin.specs.Bits.{bit, nibble}
-use Rattle.saturnin.specs.Cube.{Cube, cube, at, index, x_of, y_of, z_of}
+use Rattle.octets.specs.Lists.{at}
+use Rattle.saturnin.specs.Cube.{Cube, cube, index, x_of, y_of, z_of}
 
 -- the S-boxes, by their tables: σ₀ at even indices, σ₁ at odd ones
 unfoldable pub σ₀ : ℕ → ℕ

@@ -5,5 +5,3 @@ pub mod Rounds
 pub mod Schedules
 pub mod Back
 pub mod TwoRounds
-pub mod Meaning
-pub mod Calls

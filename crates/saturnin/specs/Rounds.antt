@@ -1,7 +1,8 @@
 -- The round constants, the sub-keys, the rounds, and the cipher.
 use Rattle.std.specs.Prelude.{ℕ, zero, suc, ◌+◌, ◌*◌, ◌/◌, ◌%◌, cond, List, [], ◌∷◌, ◌==◌, bit_xor, nat_lt}
 use Rattle.saturnin.specs.Bits.{bit}
-use Rattle.saturnin.specs.Cube.{Cube, cube, at, to_cube, from_cube}
+use Rattle.octets.specs.Lists.{at}
+use Rattle.saturnin.specs.Cube.{Cube, cube, to_cube, from_cube}
 use Rattle.saturnin.specs.Layers.{S, SR, SR⁻¹, MC, add}
 
 -- a clock doubles a 16-bit word; if its top bit was 1, the polynomial is added

@@ -1,6 +1,6 @@
 -- The round constants as a list of pairs.
 use Rattle.std.specs.Prelude.{◌≡◌, ℕ, List, map}
-use Rattle.saturnin.specs.Cube.{table}
+use Rattle.octets.specs.Lists.{table}
 use Rattle.saturnin.specs.Rounds.{RC₀, RC₁}
 use Rattle.saturnin.specs.declared.schedule.RoundConstants.{RoundConstants}
 

@@ -15,7 +15,7 @@ use crate::shifts::{Sheets, Shift, Slices};
 // The block that the cipher gives, worked in a form.
 #[tactic(auto, unfolding(crate::specs::Rounds::forward))]
 pub fn encrypted<F: Form>(constants: Constants, key: &[u8; 32], block: &[u8; 32]) -> [u8; 32]
-    ensures { result ≡ forward key.now constants.entry.of.d constants.entry.of.r block.now }
+    ensures { result ≡ forward key.now constants.entry.of.separator constants.entry.of.«super_rounds» block.now }
 {
     rounds(constants, F::load(key), F::load(block)).store()
 }
@@ -23,7 +23,7 @@ pub fn encrypted<F: Form>(constants: Constants, key: &[u8; 32], block: &[u8; 32]
 // The block that the cipher takes to the given one.
 #[tactic(auto, unfolding(crate::specs::Back::back))]
 pub fn decrypted<F: Form>(constants: Constants, key: &[u8; 32], block: &[u8; 32]) -> [u8; 32]
-    ensures { result ≡ back key.now constants.entry.of.d constants.entry.of.r block.now }
+    ensures { result ≡ back key.now constants.entry.of.separator constants.entry.of.«super_rounds» block.now }
 {
     rounds_back(constants, F::load(key), F::load(block)).store()
 }
@@ -31,7 +31,7 @@ pub fn decrypted<F: Form>(constants: Constants, key: &[u8; 32], block: &[u8; 32]
 // The key is added, and then come the super-rounds. They shift in slices and in sheets by turns, so they go in pairs; with an
 // odd count one is left over.
 fn rounds<F: Form>(constants: Constants, key: F, block: F) -> F
-    ensures { let by = constants.entry.of in F.cube result ≡ rounds (F.cube key) by.d by.r (2 * by.r) (add (F.cube key) (F.cube block)) }
+    ensures { let by = constants.entry.of in F.cube result ≡ rounds (F.cube key) by.separator by.«super_rounds» (2 * by.«super_rounds») (add (F.cube key) (F.cube block)) }
 {
     let turned_key = key.rotated();
     let (pairs, rest) = constants.rounds.as_chunks::<2>();
@@ -47,7 +47,7 @@ fn rounds<F: Form>(constants: Constants, key: F, block: F) -> F
 }
 
 fn rounds_back<F: Form>(constants: Constants, key: F, block: F) -> F
-    ensures { let by = constants.entry.of in F.cube result ≡ add (F.cube key) (rounds⁻¹ (F.cube key) by.d by.r (2 * by.r) (F.cube block)) }
+    ensures { let by = constants.entry.of in F.cube result ≡ add (F.cube key) (rounds⁻¹ (F.cube key) by.separator by.«super_rounds» (2 * by.«super_rounds») (F.cube block)) }
 {
     let turned_key = key.rotated();
     let (pairs, rest) = constants.rounds.as_chunks::<2>();

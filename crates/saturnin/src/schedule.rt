@@ -1,9 +1,9 @@
 ghost use Rattle.std.specs.Prelude.{◌≡◌, ◌+◌, ◌*◌, ◌<◌};
-ghost use Rattle.saturnin.specs.Cube.{table};
+ghost use Rattle.octets.specs.Lists.{table};
 ghost use Rattle.saturnin.specs.Rounds.{clock, clocked};
 ghost use Rattle.saturnin.specs.Schedules.{Scheduled};
 
-use crate::parameters::Parameters;
+use cipher::Parameters;
 
 // The two constants of a super-round, RC0 and RC1.
 #[derive(Clone, Copy)]
@@ -14,7 +14,7 @@ pub struct RoundConstants(pub u16, pub u16);
 pub struct Constants<'a> {
     pub of: Parameters,
     pub rounds: &'a [RoundConstants],
-    ghost scheduled: { Scheduled of.d of.r of.r rounds.now },
+    ghost scheduled: { Scheduled of.separator of.«super_rounds» of.«super_rounds» rounds.now },
 }
 
 // The constants of super-rounds 0 to 30, by the clocking: an array of the longest length, since a cipher uses no heap.
@@ -22,14 +22,14 @@ pub struct Constants<'a> {
 pub struct Schedule {
     pub of: Parameters,
     pub rounds: [RoundConstants; 31],
-    ghost scheduled: { Scheduled of.d of.r 31 rounds },
+    ghost scheduled: { Scheduled of.separator of.«super_rounds» 31 rounds },
 }
 
 impl Schedule {
     pub fn new(of: Parameters) -> Schedule
         ensures { result.of ≡ of }
     {
-        let start = 0xfe00 + 16 * of.r as u16 + of.d as u16;
+        let start = 0xfe00 + 16 * of.super_rounds as u16 + of.separator as u16;
         let mut c = RoundConstants(start, start);
         let mut rounds = [c; 31];
         for pair in &mut rounds {
@@ -45,7 +45,7 @@ impl Schedule {
     {
         Constants {
             of: self.of,
-            rounds: &self.rounds[..self.of.r as usize],
+            rounds: &self.rounds[..self.of.super_rounds as usize],
         }
     }
 }

@@ -4,16 +4,16 @@ ghost use Rattle.std.specs.Prelude.{◌≡◌, Result, ℕ};
 ghost use Rattle.faults.specs.declared.ModeFault.{ModeFault};
 ghost use Rattle.saturnin.specs.Rounds.{forward};
 ghost use Rattle.saturnin.specs.Back.{back};
-ghost use Rattle.saturnin.specs.Calls.{Calls};
+ghost use Rattle.cipher.specs.Calls.{Calls};
 ghost use Rattle.modes.specs.Hash.{Hashes};
-ghost use Rattle.modes.specs.Cascade.{Seals, Opens};
-ghost use Rattle.modes.specs.Exact.{OpensExactly};
+ghost use Rattle.modes.specs.Cascade.{CascadeSeals, CascadeOpens};
+ghost use Rattle.modes.specs.Exact.{CascadeOpensExactly};
 ghost use Rattle.modes.specs.Short.{ShortSeals, ShortOpens, ShortOpensExactly};
 ghost use Rattle.saturnin_c.specs.Answers.{number_of, length_of};
 
 use faults::ModeFault;
 use modes::{Cascade, open_short, seal_short};
-use saturnin::{Cipher, TwoWayCipher};
+use cipher::{Cipher, TwoWayCipher};
 use saturnin_words::WordForm;
 
 // The cipher and its modes for programs in C: `interface/saturnin.h` declares these functions. Each is one call of the library,
@@ -49,7 +49,7 @@ pub extern "C" fn saturnin_seal(
     text: &mut [u8],
     tag: &mut [u8],
 ) -> u8
-    ensures { (answer : Result (Unit {0}) ModeFault) × Seals forward key.now nonce.now associated.now message.now text.old tag.old answer text.new tag.new × (result ≡ number_of answer) }
+    ensures { (answer : Result (Unit {0}) ModeFault) × CascadeSeals forward key.now nonce.now associated.now message.now text.old tag.old answer text.new tag.new × (result ≡ number_of answer) }
 {
     let under = Cascade {
         cipher: &WordForm,
@@ -69,8 +69,8 @@ pub extern "C" fn saturnin_open(
     tag: &[u8],
     message: &mut [u8],
 ) -> u8
-    ensures { (answer : Result (Unit {0}) ModeFault) × Opens forward key.now nonce.now associated.now text.now tag.now message.old answer message.new
-        × OpensExactly forward key.now nonce.now associated.now text.now tag.now message.old answer message.new × (result ≡ number_of answer) }
+    ensures { (answer : Result (Unit {0}) ModeFault) × CascadeOpens forward key.now nonce.now associated.now text.now tag.now message.old answer message.new
+        × CascadeOpensExactly forward key.now nonce.now associated.now text.now tag.now message.old answer message.new × (result ≡ number_of answer) }
 {
     let under = Cascade {
         cipher: &WordForm,

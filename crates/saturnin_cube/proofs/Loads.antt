@@ -2,9 +2,10 @@
 use Rattle.std.proofs.Common.{◌≡◌, ℕ, zero, suc, ◌+◌, ◌*◌, ◌/◌, ◌%◌, ◌^◌, ◌<◌, ◌≤◌, List, [], ◌∷◌, ◌∙◌, mul_comm, pow-suc, add-one, arith, pow_mono, shl_exact}
 use Rattle.std.specs.Int.{to_le_bytes, w16}
 use Rattle.saturnin.specs.Bits.{bit, number}
-use Rattle.saturnin.specs.Cube.{Cube, cube, at, table, register, to_cube, cube_register, from_cube}
+use Rattle.octets.specs.Lists.{at, table}
+use Rattle.saturnin.specs.Cube.{Cube, cube, register, to_cube, cube_register, from_cube}
 use Rattle.saturnin.proofs.Bits.{bit_lt}
-use Rattle.saturnin.proofs.Tables.{at_table, same_table}
+use Rattle.octets.proofs.Tables.{at_table, same_table}
 use Rattle.saturnin.proofs.Numbers.{weighed_lt, number_lt}
 use Rattle.saturnin_cube.specs.Parts.{nibble_in}
 

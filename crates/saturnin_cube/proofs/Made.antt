@@ -1,8 +1,9 @@
 -- Rows and cubes that `array::from_fn` makes with a closure that changes nothing, by what each call says of its element.
 use Rattle.std.proofs.Common.{◌≡◌, ℕ, ◌+◌, ◌*◌, ◌/◌, ◌%◌, ◌<◌, List, map, ◌∙◌, sym}
 use Rattle.std.specs.Array.{IsFromFnResult}
-use Rattle.saturnin.specs.Cube.{at, cube}
-use Rattle.saturnin.proofs.Made.{Each, each_at}
+use Rattle.octets.specs.Lists.{at}
+use Rattle.saturnin.specs.Cube.{cube}
+use Rattle.octets.proofs.Made.{Each, each_at}
 use Rattle.saturnin_cube.specs.Nibbles.{IsRow, nibbles}
 use Rattle.saturnin_cube.specs.declared.nibble.Nibble.{Nibble}
 use Rattle.saturnin_cube.specs.declared.shape.Row.{Row}

@@ -2,8 +2,9 @@
 use Rattle.std.specs.Prelude.{◌≡◌, ℕ, zero, suc, ◌+◌, ◌*◌, ◌/◌, ◌%◌, ◌<◌, cond, ◌==◌, List, [], ◌∷◌, length, refl}
 use Rattle.std.proofs.Common.{sym, ap, ap₂, get_or, ◌∙◌, add-zero, arith, lit<}
 use Rattle.std.proofs.lemmas.List.{get_or-map}
-use Rattle.saturnin.specs.Cube.{at, cube}
-use Rattle.saturnin.proofs.Tables.{at_table, same_table}
+use Rattle.octets.specs.Lists.{at}
+use Rattle.saturnin.specs.Cube.{cube}
+use Rattle.octets.proofs.Tables.{at_table, same_table}
 use Rattle.saturnin_cube.specs.Nibbles.{of_row, IsRow, nibble_at, nibbles}
 use Rattle.saturnin_cube.specs.declared.nibble.Nibble.{Nibble}
 use Rattle.saturnin_cube.specs.declared.shape.Row.{Row}

@@ -1,6 +1,7 @@
 -- The nibbles of a cube that is held in rows.
 use Rattle.std.specs.Prelude.{◌≡◌, ℕ, zero, suc, ◌/◌, ◌%◌, ◌<◌, List, [], ◌∷◌, map}
-use Rattle.saturnin.specs.Cube.{cube, at}
+use Rattle.octets.specs.Lists.{at}
+use Rattle.saturnin.specs.Cube.{cube}
 use Rattle.saturnin_cube.specs.declared.nibble.Nibble.{Nibble}
 use Rattle.saturnin_cube.specs.declared.shape.Row.{Row}
 use Rattle.saturnin_cube.specs.declared.shape.Cube.{Cube}

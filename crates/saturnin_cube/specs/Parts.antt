@@ -1,7 +1,8 @@
 -- Steps of the cipher with a parameter in place of what differs between them.
 use Rattle.std.specs.Prelude.{ℕ, ◌+◌, ◌*◌, ◌%◌, List}
 use Rattle.saturnin.specs.Bits.{bit, nibble}
-use Rattle.saturnin.specs.Cube.{at, index, x_of, y_of, z_of}
+use Rattle.octets.specs.Lists.{at}
+use Rattle.saturnin.specs.Cube.{index, x_of, y_of, z_of}
 
 -- the index from which nibble i comes, where at each step of y the slices turn by X and the sheets by Z
 abbrev pub turned_from : (X Z i : ℕ) → ℕ

@@ -1,5 +1,5 @@
 ghost use Rattle.std.specs.Prelude.{◌≡◌, ℕ, ◌%◌, ◌<◌, cond, ◌==◌, length, slice_index};
-ghost use Rattle.saturnin.specs.Cube.{at};
+ghost use Rattle.octets.specs.Lists.{at};
 ghost use Rattle.saturnin_cube.specs.Nibbles.{of_row, IsRow};
 
 use crate::nibble::Nibble;

@@ -1,5 +1,6 @@
 ghost use Rattle.std.specs.Prelude.{◌≡◌, ◌<◌, length};
-ghost use Rattle.saturnin.specs.Cube.{table, register, cube_register};
+ghost use Rattle.octets.specs.Lists.{table};
+ghost use Rattle.saturnin.specs.Cube.{register, cube_register};
 ghost use Rattle.saturnin_cube.specs.Nibbles.{IsRow, nibbles};
 ghost use Rattle.saturnin_cube.specs.Parts.{nibble_in};
 

@@ -15,7 +15,8 @@ ghost use Rattle.saturnin.specs.Back.{back};
 ghost use Rattle.saturnin.proofs.Laws.{forward-gives_blocks, forward-two_way};
 
 use crate::shape::Cube;
-use saturnin::{Cipher, Parameters, Schedule, TwoWayCipher, decrypted, encrypted};
+use cipher::{Cipher, Parameters, TwoWayCipher};
+use saturnin::{Schedule, decrypted, encrypted};
 
 // The block cipher Saturnin on a cube of nibbles: the form that follows its definition step by step.
 #[derive(Clone, Copy)]

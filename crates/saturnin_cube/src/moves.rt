@@ -1,5 +1,6 @@
 ghost use Rattle.std.specs.Prelude.{◌≡◌, ◌+◌, ◌*◌, ◌<◌};
-ghost use Rattle.saturnin.specs.Cube.{cube, at};
+ghost use Rattle.octets.specs.Lists.{at};
+ghost use Rattle.saturnin.specs.Cube.{cube};
 ghost use Rattle.saturnin_cube.specs.Nibbles.{IsRow, nibbles};
 ghost use Rattle.saturnin_cube.specs.Parts.{turned_from};
 

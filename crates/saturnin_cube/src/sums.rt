@@ -1,6 +1,6 @@
 ghost use Rattle.std.specs.Prelude.{◌≡◌, ◌<◌, [], ◌∷◌, bit_xor};
 ghost use Rattle.saturnin.specs.Bits.{bit as bit_of};
-ghost use Rattle.saturnin.specs.Cube.{at};
+ghost use Rattle.octets.specs.Lists.{at};
 ghost use Rattle.saturnin.specs.Layers.{add};
 ghost use Rattle.saturnin.specs.Rounds.{constants as constants_of};
 ghost use Rattle.saturnin_cube.specs.Nibbles.{of_row, IsRow, nibbles};

@@ -2,7 +2,7 @@
 -- through the same steps.
 use Rattle.std.proofs.Common.{◌≡◌, ℕ, ◌+◌, ◌*◌, ◌%◌, ◌<◌, ap, ◌∙◌, ap₂, arith}
 use lib.Bits.{bit_xor}
-use Rattle.saturnin.specs.Cube.{at}
+use Rattle.octets.specs.Lists.{at}
 use Rattle.saturnin.specs.Layers.{α, M_row, MC}
 use Rattle.saturnin.specs.Back.{α⁻¹, M⁻¹_row, MC⁻¹}
 use Rattle.saturnin.proofs.Matrix.{row0, row1, row2, row3}

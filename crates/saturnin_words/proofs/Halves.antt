@@ -2,11 +2,11 @@
 use Rattle.std.proofs.Common.{◌≡◌, ℕ, ◌+◌, ◌*◌, ◌/◌, ◌%◌, ◌<◌, [], ◌∷◌, sym, ap, ◌∙◌, ap₂, add_comm, arith}
 use lib.Bits.{bit_xor, xor_zero_r}
 use Rattle.saturnin.specs.Bits.{bit}
-use Rattle.saturnin.specs.Cube.{at}
+use Rattle.octets.specs.Lists.{at}
 use Rattle.saturnin.specs.Layers.{add}
 use Rattle.saturnin.specs.Rounds.{constants}
 use Rattle.saturnin.proofs.Bits.{bit_mod, bit_shr}
-use Rattle.saturnin.proofs.Tables.{at_table, same_table}
+use Rattle.octets.proofs.Tables.{at_table, same_table}
 use Rattle.saturnin_words.specs.Words.{quad, cube_of}
 use Rattle.saturnin_words.specs.declared.state.State.{State}
 use Rattle.saturnin_words.proofs.Places.{at_place, by_rows}

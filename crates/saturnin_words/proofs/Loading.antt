@@ -5,9 +5,10 @@ use Rattle.std.proofs.lemmas.Bool.{cases_eq}
 use Rattle.saturnin.proofs.Conversions.{from-cube-length}
 use Rattle.std.proofs.lemmas.Nat.{shr-shr}
 use Rattle.saturnin.specs.Bits.{bit, nibble}
-use Rattle.saturnin.specs.Cube.{at, register, word, to_cube, cube_register, from_cube}
+use Rattle.octets.specs.Lists.{at}
+use Rattle.saturnin.specs.Cube.{register, word, to_cube, cube_register, from_cube}
 use Rattle.saturnin.proofs.Bits.{bit_lt, bit_shr, same_below}
-use Rattle.saturnin.proofs.Tables.{at_table}
+use Rattle.octets.proofs.Tables.{at_table}
 use Rattle.saturnin.proofs.Numbers.{four, number_same, number_bit, bit-nibble}
 use Rattle.saturnin_words.specs.Words.{across, quad, cube_of}
 use Rattle.saturnin_words.specs.declared.quad.Quad.{Quad}

@@ -3,9 +3,10 @@ use Rattle.std.proofs.Common.{◌≡◌, ℕ, zero, suc, ◌+◌, ◌*◌, ◌/�
 use Rattle.std.proofs.lemmas.Bool.{lt-ltb, le-ltb}
 use lib.Bits.{bit_xor}
 use Rattle.saturnin.specs.Bits.{bit}
-use Rattle.saturnin.specs.Cube.{at, cube}
+use Rattle.octets.specs.Lists.{at}
+use Rattle.saturnin.specs.Cube.{cube}
 use Rattle.saturnin.specs.Layers.{add}
-use Rattle.saturnin.proofs.Tables.{at_table, same_table}
+use Rattle.octets.proofs.Tables.{at_table, same_table}
 use Rattle.saturnin_words.specs.Words.{across, quad, stands_at, cube_of, in_row, in_word, in_cube}
 use Rattle.saturnin_words.specs.declared.quad.Quad.{Quad}
 use Rattle.saturnin_words.specs.declared.state.State.{State}

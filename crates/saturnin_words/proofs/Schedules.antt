@@ -3,7 +3,7 @@ use Rattle.std.proofs.Common.{T, ◌≡◌, ℕ, ◌+◌, ◌<◌, Bool, List, [
 use Rattle.std.specs.Str.{bytes_eq}
 use Rattle.std.proofs.lemmas.Bool.{cases_Bool}
 use Rattle.std.proofs.lemmas.Slice.Eq.{bytes_eq-Decides}
-use Rattle.saturnin.specs.Cube.{table}
+use Rattle.octets.specs.Lists.{table}
 use Rattle.saturnin.specs.Rounds.{RC₀, RC₁}
 use Rattle.saturnin.specs.Schedules.{Scheduled}
 use Rattle.saturnin.specs.declared.schedule.RoundConstants.{RoundConstants}

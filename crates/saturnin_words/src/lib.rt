@@ -12,7 +12,8 @@ ghost use Rattle.saturnin.specs.Rounds.{forward};
 ghost use Rattle.saturnin.specs.Back.{back};
 ghost use Rattle.saturnin.proofs.Laws.{forward-gives_blocks, forward-two_way};
 
-use saturnin::{Cipher, Parameters, TwoWayCipher, decrypted, encrypted};
+use cipher::{Cipher, Parameters, TwoWayCipher};
+use saturnin::{decrypted, encrypted};
 use state::State;
 use tables::with_constants;
 
@@ -30,7 +31,7 @@ impl Cipher for WordForm {
         with_constants(
             by,
             |constants|
-                ensures { result ≡ forward key.entry.now constants.entry.of.d constants.entry.of.r block.entry.now }
+                ensures { result ≡ forward key.entry.now constants.entry.of.separator constants.entry.of.«super_rounds» block.entry.now }
             { encrypted::<State>(constants, key, block) },
         )
     }
@@ -45,7 +46,7 @@ impl TwoWayCipher for WordForm {
         with_constants(
             by,
             |constants|
-                ensures { result ≡ back key.entry.now constants.entry.of.d constants.entry.of.r block.entry.now }
+                ensures { result ≡ back key.entry.now constants.entry.of.separator constants.entry.of.«super_rounds» block.entry.now }
             { decrypted::<State>(constants, key, block) },
         )
     }

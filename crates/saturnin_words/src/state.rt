@@ -1,5 +1,6 @@
 ghost use Rattle.std.specs.Prelude.{◌≡◌, ◌/◌, ◌%◌, ◌≤◌, ◌⊎◌, [], ◌∷◌};
-ghost use Rattle.saturnin.specs.Cube.{at, cube};
+ghost use Rattle.octets.specs.Lists.{at};
+ghost use Rattle.saturnin.specs.Cube.{cube};
 ghost use Rattle.saturnin.specs.Layers.{add};
 ghost use Rattle.saturnin_words.specs.Words.{cube_of, in_cube};
 

@@ -1,6 +1,7 @@
 ghost use Rattle.std.specs.Prelude.{◌≡◌, IfSome};
 
-use saturnin::{Constants, Parameters, RoundConstants, Schedule};
+use cipher::Parameters;
+use saturnin::{Constants, RoundConstants, Schedule};
 
 // The constants of the separators and counts that the modes use: separators 1 to 6 with 10 super-rounds, and 7 and 8 with
 // 16. A pair is RC0 and RC1.
@@ -130,9 +131,9 @@ static OF_SIXTEEN: [[RoundConstants; 16]; 2] = [
 fn mode_constants(of: Parameters) -> Option<Constants<'static>>
     ensures { IfSome result (λ c. c.of ≡ of) }
 {
-    let rounds: &[RoundConstants] = match (of.d, of.r) {
-        (1..=6, 10) => &OF_TEN[of.d as usize - 1],
-        (7..=8, 16) => &OF_SIXTEEN[of.d as usize - 7],
+    let rounds: &[RoundConstants] = match (of.separator, of.super_rounds) {
+        (1..=6, 10) => &OF_TEN[of.separator as usize - 1],
+        (7..=8, 16) => &OF_SIXTEEN[of.separator as usize - 7],
         _ => return None,
     };
     Some(Constants { of, rounds })

@@ -2,9 +2,9 @@
 use Rattle.std.proofs.Common.{◌≡◌, ℕ, ◌+◌, ◌-◌, ◌≤◌, List, ◌++◌, length, take, drop, sym, ap, ◌∙◌, ap₂, arith}
 use Rattle.std.proofs.lemmas.List.{length-replicate, take-append-drop, drop-drop, take_all, take-replicate, drop-replicate, length-take, length-drop}
 use Rattle.octets.specs.Octets.{zeros, part, written}
-use Rattle.saturnin.specs.Meaning.{BlockFunction}
+use Rattle.cipher.specs.Meaning.{BlockFunction}
 use Rattle.modes.specs.Cascade.{ctr, tag}
-use Rattle.sheets.specs.Sheets.{head_of, associated, sealed}
+use Rattle.records.specs.Sheets.{head_of, associated, sheet_under}
 use Rattle.octets.proofs.Writes.{length-written, part-written, part_below, part_above}
 
 -- a part of a memory, as the checker has it
@@ -89,7 +89,7 @@ module _ (nonce head text sign r0 r1 r2 r3 r4 : List ℕ) (n : ℕ) (l16 : lengt
 -- and with the parts that sealing gives, it is the record of a sheet
 pub as_sealed : (f : BlockFunction) (key nonce label message head data' text sign : List ℕ) (place : ℕ)
     → head ≡ head_of label message → data' ≡ associated place head → text ≡ ctr f key nonce message → sign ≡ tag f key nonce data' (ctr f key nonce message)
-    → nonce ++ (head ++ (text ++ (zeros (928 - length message) ++ sign))) ≡ sealed f key nonce place label message
+    → nonce ++ (head ++ (text ++ (zeros (928 - length message) ++ sign))) ≡ sheet_under f key nonce place label message
 as_sealed f key nonce label message head data' text sign place h d t s =
     ap₂ (λ a b. nonce ++ (head ++ (a ++ (zeros (928 - length message) ++ b)))) t (s ∙ ap (λ x. tag f key nonce x (ctr f key nonce message)) d)
     ∙ ap (λ x. nonce ++ (x ++ (ctr f key nonce message ++ (zeros (928 - length message) ++ tag f key nonce (associated place x) (ctr f key nonce message))))) h

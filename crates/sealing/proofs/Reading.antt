@@ -3,7 +3,7 @@ use Rattle.std.proofs.Common.{◌≡◌, ℕ, ◌+◌, ◌-◌, List, ◌++◌, 
 use mathlib.Core.Path.{transport}
 use Rattle.std.proofs.lemmas.List.{length-take, length-drop, length-append, take_all}
 use Rattle.faults.specs.declared.BoxCause.TheVariants.{Mode}
-use Rattle.faults.specs.Causes.{from_mode, left}
+use Rattle.faults.specs.Causes.{mode_fault, from_mode, left}
 use Rattle.faults.specs.Tables.{Table, By, Not}
 use Rattle.faults.specs.declared.ModeCause.TheVariants.{Tag}
 use Rattle.faults.specs.declared.ModeFault.{ModeFault}
@@ -14,11 +14,11 @@ use Rattle.faults.proofs.Tables.{by_follows}
 use Rattle.sealing.specs.declared.found.Found.{Found}
 use Rattle.octets.specs.Octets.{part, written, big_endian}
 use Rattle.octets.proofs.Numbers.{length-big_endian}
-use Rattle.saturnin.specs.Meaning.{BlockFunction}
-use Rattle.modes.specs.Cascade.{ctr, Opens}
+use Rattle.cipher.specs.Meaning.{BlockFunction}
+use Rattle.modes.specs.Cascade.{ctr, CascadeOpens}
 use Rattle.modes.proofs.Streams.{length-ctr}
-use Rattle.sheets.specs.Records.{empty}
-use Rattle.sheets.specs.Sheets.{associated, nonce_in, head_in, length_in, text_in, tag_in, WellFormed, right_tag, message_in}
+use Rattle.records.specs.Records.{empty}
+use Rattle.records.specs.Sheets.{associated, nonce_in, head_in, length_in, text_in, tag_in, WellFormed, right_tag, message_in}
 use Rattle.sealing.specs.Sealing.{open_sheet_table}
 
 module _ (f : BlockFunction) (key : List ℕ) (place : ℕ) (bytes : List ℕ) (n : ℕ) (kl : length key ≡ 32) (long : length bytes ≡ 1024) (is : n ≡ length_in bytes)
@@ -33,14 +33,14 @@ module _ (f : BlockFunction) (key : List ℕ) (place : ℕ) (bytes : List ℕ) (
   data_long : length (associated place (head_in bytes)) ≡ 52
   data_long = length-append (big_endian 4 place) (head_in bytes) ∙ simp (length-take, length-drop) (omega (arith, length-big_endian 4 place))
 
-  module _ (opens : Opens f key (take 16 bytes) data' (take (64 + n - 64) (drop 64 bytes)) (take 32 (drop 992 bytes)) out answer out') where
-    same : Opens f key (nonce_in bytes) (associated place (head_in bytes)) (text_in bytes) (tag_in bytes) out answer out'
-    same = transport (λ i. Opens f key (take 16 bytes) (d i) (text_is i) (tag_is i) out answer out') opens
+  module _ (opens : CascadeOpens f key (take 16 bytes) data' (take (64 + n - 64) (drop 64 bytes)) (take 32 (drop 992 bytes)) out answer out') where
+    same : CascadeOpens f key (nonce_in bytes) (associated place (head_in bytes)) (text_in bytes) (tag_in bytes) out answer out'
+    same = transport (λ i. CascadeOpens f key (take 16 bytes) (d i) (text_is i) (tag_is i) out answer out') opens
 
     text_long : length (text_in bytes) ≡ n
     text_long = simp (length-take, length-drop) (omega (arith, formed.0, is))
 
-    rest : (Not (tag_in bytes ≡ right_tag f key place bytes) → (answer ≡ Err (record { cause = Tag })) × (out' ≡ left (Mode Tag) out))
+    rest : (Not (tag_in bytes ≡ right_tag f key place bytes) → (answer ≡ Err (mode_fault Tag)) × (out' ≡ left (Mode Tag) out))
         × (Not (Not (tag_in bytes ≡ right_tag f key place bytes)) → (answer ≡ Ok tt) × (out' ≡ ctr f key (nonce_in bytes) (text_in bytes)))
     rest = (same.1 (λ k. k (kl, ol ∙ sym text_long, simp length-drop (omega arith)))).1 (λ k. k (simp length-take (omega arith), omega (arith, data_long), omega (arith, text_long, is, formed.0)))
 
@@ -51,7 +51,7 @@ module _ (f : BlockFunction) (key : List ℕ) (place : ℕ) (bytes : List ℕ) (
       λ h. (
         λ k. absurd (k formed),
         λ k. (
-          λ differs. r ∙ ap (λ x. Err (from_mode x)) (same_error fault (record { cause = Tag }) (sym a ∙ (rest.0 differs).0)),
+          λ differs. r ∙ ap (λ x. Err (from_mode x)) (same_error fault (mode_fault Tag) (sym a ∙ (rest.0 differs).0)),
           λ right. absurd (never_both tt fault (sym (rest.1 right).0 ∙ a)),
         ),
       ),
@@ -65,7 +65,7 @@ module _ (f : BlockFunction) (key : List ℕ) (place : ℕ) (bytes : List ℕ) (
       λ h. (
         λ k. absurd (k formed),
         λ k. (
-          λ differs. absurd (never_both tt (record { cause = Tag }) (sym a ∙ (rest.0 differs).0)),
+          λ differs. absurd (never_both tt (mode_fault Tag) (sym a ∙ (rest.0 differs).0)),
           λ right.
               let e : message ≡ message_in f key bytes = m ∙ (rest.1 right).1 in
               (ap length e ∙ length-ctr f key (nonce_in bytes) (text_in bytes) ∙ text_long ∙ is, e),

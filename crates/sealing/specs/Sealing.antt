@@ -1,25 +1,25 @@
 -- Sealing a sheet into a record, and opening a record: their tables and results.
 use Rattle.std.specs.Prelude.{◌≡◌, ℕ, ◌<◌, List, [], ◌∷◌, ◌++◌, length, None, Ok, Err, Result}
+use Rattle.faults.specs.Causes.{mode_fault}
 use Rattle.faults.specs.Tables.{Table, By, Not}
-use Rattle.faults.specs.declared.ModeCause.{ModeCause}
 use Rattle.faults.specs.declared.ModeCause.TheVariants.{Limit, Tag}
 use Rattle.faults.specs.declared.ModeFault.{ModeFault}
 use Rattle.faults.specs.declared.BoxCause.{BoxCause}
 use Rattle.faults.specs.declared.BoxCause.TheVariants.{Mode, Empty, Filling}
 use Rattle.faults.specs.declared.BoxFault.{BoxFault}
-use Rattle.saturnin.specs.Meaning.{BlockFunction}
-use Rattle.sheets.specs.Records.{empty, number_in}
-use Rattle.sheets.specs.Sheets.{sealed, length_in, tag_in, WellFormed, right_tag, opened}
+use Rattle.cipher.specs.Meaning.{BlockFunction}
+use Rattle.records.specs.Records.{empty, number_in}
+use Rattle.records.specs.Sheets.{sheet_under, length_in, tag_in, WellFormed, right_tag, opened}
 use Rattle.sealing.specs.declared.found.Found.{Found}
 
-abbrev pub seal_sheet_table : (message : List ℕ) → Table ModeCause
-seal_sheet_table message = (928 < length message, Limit) ∷ []
+abbrev pub seal_sheet_table : (message : List ℕ) → Table ModeFault
+seal_sheet_table message = (928 < length message, mode_fault Limit) ∷ []
 
 abbrev pub SealsSheet : BlockFunction → (key nonce : List ℕ) (place : ℕ) (label message bytes : List ℕ) → Result (Unit {0}) ModeFault → (bytes' : List ℕ) → Type 0
 SealsSheet f key nonce place label message bytes answer bytes' =
     By (seal_sheet_table message)
-    (λ cause. (answer ≡ Err (record { cause = cause })) × (bytes' ≡ bytes))
-    ((answer ≡ Ok tt) × (bytes' ≡ sealed f key nonce place label message))
+    (λ fault. (answer ≡ Err fault) × (bytes' ≡ bytes))
+    ((answer ≡ Ok tt) × (bytes' ≡ sheet_under f key nonce place label message))
 
 -- whether there is a record of the right form, and then whether its tag is the right one
 abbrev pub form_table : (bytes : List ℕ) → Table BoxCause

@@ -1,7 +1,7 @@
 ghost use Rattle.std.specs.Prelude.{◌≡◌, length, None, Err, MatchResult};
 ghost use Rattle.faults.specs.Tables.{By, Not};
-ghost use Rattle.sheets.specs.Records.{empty, number_in as number_of};
-ghost use Rattle.sheets.specs.Sheets.{length_in as length_of, WellFormed, message_in as message_of};
+ghost use Rattle.records.specs.Records.{empty, number_in as number_of};
+ghost use Rattle.records.specs.Sheets.{length_in as length_of, WellFormed, message_in as message_of};
 ghost use Rattle.sealing.specs.Sealing.{form_table, open_sheet_table, OpensSheet};
 
 use crate::found::Found;
@@ -10,8 +10,8 @@ use crate::seals::associated;
 use arrayvec::ArrayVec;
 use faults::{BoxCause, BoxFault};
 use modes::Cascade;
-use saturnin::Cipher;
-use sheets::number_in;
+use cipher::Cipher;
+use records::number_in;
 
 impl<'a, C: Cipher> PlaceLock<'a, C> {
     // Opens the record of the place in its buffer. A refusal makes the buffer zero.

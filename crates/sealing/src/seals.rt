@@ -1,13 +1,13 @@
 ghost use Rattle.std.specs.Prelude.{◌≡◌, ◌++◌};
 ghost use Rattle.octets.specs.Octets.{big_endian};
-ghost use Rattle.sheets.specs.Sheets.{associated as associated_of};
+ghost use Rattle.records.specs.Sheets.{associated as associated_of};
 ghost use Rattle.sealing.specs.Sealing.{SealsSheet};
 
 use crate::lock::PlaceLock;
 use faults::{ModeCause, ModeFault};
 use modes::Cascade;
 use octets::{joined, paste};
-use saturnin::Cipher;
+use cipher::Cipher;
 
 impl<'a, C: Cipher> PlaceLock<'a, C> {
     // Seals a message of at most 928 bytes into a record, under a nonce of its own.

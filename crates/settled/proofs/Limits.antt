@@ -6,12 +6,12 @@ use Rattle.faults.specs.declared.ShelfFault.{ShelfFault}
 use Rattle.faults.specs.declared.BoxFault.{BoxFault}
 use Rattle.faults.proofs.Results.{never_both, same_value}
 use Rattle.faults.proofs.Tables.{done_when}
-use Rattle.saturnin.specs.Meaning.{BlockFunction}
-use Rattle.modes.specs.Cascade.{seal_table as cascade_table, Seals as CascadeSeals}
+use Rattle.cipher.specs.Meaning.{BlockFunction}
+use Rattle.modes.specs.Cascade.{cascade_table, CascadeSeals}
 use Rattle.shelf.specs.Meaning.{Answers}
-use Rattle.shelf.specs.Plates.{fit_table}
-use Rattle.logs.specs.States.{Made, State}
-use Rattle.logs.specs.Calls.{refused, draw_table, Draws, seal_table, Seals, slip_table, Slips}
+use Rattle.plate.specs.Plates.{fit_table}
+use Rattle.box_model.specs.States.{Made, State}
+use Rattle.box_model.specs.Calls.{refused, draw_table, Draws, seal_table, Seals, slip_table, Slips}
 use Rattle.settled.specs.Settled.{Marks, Gets, TakesAtMost}
 use Rattle.settled.proofs.Marks.{plate_gap}
 

@@ -2,10 +2,10 @@
 use Rattle.std.proofs.Common.{◌≡◌, ℕ, zero, suc, ◌<◌, ◌≤◌, true, ltb, List, [], ◌∷◌, length, get_or, Some, ap, ◌∙◌, arith, lit≤}
 use Rattle.std.proofs.lemmas.Bool.{lt-ltb}
 use Rattle.faults.specs.Tables.{Not}
-use Rattle.saturnin.specs.Cube.{table}
+use Rattle.octets.specs.Lists.{table}
 use Rattle.shelf.specs.Meaning.{Open}
-use Rattle.shelf.specs.Plates.{cells, mark, Fit, used, last_cell, plate}
-use Rattle.shelf.proofs.Cells.{last-here, last-before, used_more, used_less}
+use Rattle.plate.specs.Plates.{cells, mark, Fit, used, last_cell, plate}
+use Rattle.plate.proofs.Marks.{last-here, last-before, used_more, used_less}
 use Rattle.settled.specs.Settled.{Marks}
 
 -- mark j of marks that are written out

@@ -6,17 +6,18 @@ use Rattle.faults.specs.declared.BoxCause.{BoxCause}
 use Rattle.faults.specs.declared.BoxCause.TheVariants.{Mode, Shelf}
 use Rattle.faults.specs.declared.ShelfFault.{ShelfFault}
 use Rattle.faults.specs.declared.BoxFault.{BoxFault}
-use Rattle.saturnin.specs.Cube.{Cube, at, table, cube, word}
+use Rattle.octets.specs.Lists.{at, table}
+use Rattle.saturnin.specs.Cube.{Cube, cube, word}
 use Rattle.saturnin.specs.Layers.{σ₀, σ₁, SR, α, M_row}
-use Rattle.saturnin.specs.Meaning.{BlockFunction}
+use Rattle.cipher.specs.Meaning.{BlockFunction}
 use Rattle.saturnin.specs.Rounds.{start, clock, rotated}
 use Rattle.octets.specs.Octets.{zeros}
-use Rattle.modes.specs.Cascade.{seal_table as cascade_table, Seals as CascadeSeals}
+use Rattle.modes.specs.Cascade.{cascade_table, CascadeSeals}
 use Rattle.modes.specs.Counters.{counter_block}
 use Rattle.shelf.specs.Meaning.{Open, Answers}
-use Rattle.shelf.specs.Plates.{cells, mark, Fit, fit_table, last_cell, plate}
-use Rattle.logs.specs.States.{Made, State}
-use Rattle.logs.specs.Calls.{Draws, seal_table, Seals, slip_table, Slips}
+use Rattle.plate.specs.Plates.{cells, mark, Fit, fit_table, last_cell, plate}
+use Rattle.box_model.specs.States.{Made, State}
+use Rattle.box_model.specs.Calls.{Draws, seal_table, Seals, slip_table, Slips}
 
 -- the cube whose nibbles are numbered: what stands at i is where nibble i came from
 abbrev pub numbered : Cube

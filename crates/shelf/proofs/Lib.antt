@@ -1,5 +1,1 @@
 pub mod Tables
-pub mod Trays
-pub mod Cells
-pub mod Plates
-pub mod Counts

@@ -1,3 +1,1 @@
 pub mod Meaning
-pub mod Trays
-pub mod Plates

@@ -1,7 +1,7 @@
 -- What a shelf is, and what its calls answer and leave.
-use Rattle.std.specs.Prelude.{◌≡◌, ℕ, ◌<◌, ◌≤◌, Bool, true, List, [], ◌∷◌, length, Some, None, Ok, Err, Option, Result}
+use Rattle.std.specs.Prelude.{◌≡◌, ℕ, ◌<◌, ◌≤◌, Bool, true, List, [], ◌∷◌, length, Some, None, Ok, Err, Result}
+use Rattle.faults.specs.Causes.{shelf_fault}
 use Rattle.faults.specs.Tables.{Table, By, Not}
-use Rattle.faults.specs.declared.ShelfCause.{ShelfCause}
 use Rattle.faults.specs.declared.ShelfCause.TheVariants.{Length, Outside, Shut}
 use Rattle.faults.specs.declared.ShelfFault.{ShelfFault}
 
@@ -21,23 +21,23 @@ pub record Lawful (m : Meaning) : Type 0 where
   pub inside : (p : ℕ) → Open m p → p < m.count
   pub whole : (p : ℕ) → p < m.count → length (m.bytes p) ≡ 1024
 
--- the answer of a call that is refused for a cause: a put names its place, a question names none
-abbrev pub refused : (place : Option ℕ) → ShelfCause → Result (Unit {0}) ShelfFault
-refused place cause = Err (record { cause = cause; place = place })
-
--- the bytes of place p are asked for, into a buffer of so many bytes
-abbrev pub get_table : Meaning → (p room : ℕ) → Table ShelfCause
-get_table m p room = (Not (room ≡ 1024), Length) ∷ (m.count ≤ p, Outside) ∷ []
+-- the bytes of place p are asked for, into a buffer of so many bytes; the faults of a question name no place
+abbrev pub get_table : Meaning → (p room : ℕ) → Table ShelfFault
+get_table m p room = (Not (room ≡ 1024), shelf_fault None Length) ∷ (m.count ≤ p, shelf_fault None Outside) ∷ []
 
 abbrev pub Gets : Meaning → (p : ℕ) (buffer : List ℕ) → Result (Unit {0}) ShelfFault → (buffer' : List ℕ) → Type 0
 Gets m p buffer answer buffer' =
     By (get_table m p (length buffer))
-    (λ cause. (answer ≡ refused None cause) × (buffer' ≡ buffer))
+    (λ fault. (answer ≡ Err fault) × (buffer' ≡ buffer))
     ((answer ≡ Ok tt) × (buffer' ≡ m.bytes p))
 
--- so many bytes are put at place p
-abbrev pub put_table : Meaning → (p size : ℕ) → Table ShelfCause
-put_table m p size = (Not (size ≡ 1024), Length) ∷ (m.count ≤ p, Outside) ∷ (Not (Open m p), Shut) ∷ []
+-- so many bytes are put at place p; the faults of a put name their place
+abbrev pub put_table : Meaning → (p size : ℕ) → Table ShelfFault
+put_table m p size =
+    (Not (size ≡ 1024), shelf_fault (Some p) Length)
+    ∷ (m.count ≤ p, shelf_fault (Some p) Outside)
+    ∷ (Not (Open m p), shelf_fault (Some p) Shut)
+    ∷ []
 
 -- what a done put makes of a shelf: which places it shuts is left to the shelf, and nothing else
 pub record Placed (m : Meaning) (p : ℕ) (bytes : List ℕ) (m' : Meaning) : Type 0 where
@@ -49,9 +49,5 @@ pub record Placed (m : Meaning) (p : ℕ) (bytes : List ℕ) (m' : Meaning) : Ty
 abbrev pub Puts : Meaning → (p : ℕ) (bytes : List ℕ) → Result (Unit {0}) ShelfFault → (m' : Meaning) → Type 0
 Puts m p bytes answer m' =
     By (put_table m p (length bytes))
-    (λ cause. (answer ≡ refused (Some p) cause) × (m' ≡ m))
+    (λ fault. (answer ≡ Err fault) × (m' ≡ m))
     ((answer ≡ Ok tt) × Placed m p bytes m')
-
--- whether such a call would be done, and if not, its refusal
-abbrev pub Answers : Table ShelfCause → (place : Option ℕ) → Result (Unit {0}) ShelfFault → Type 0
-Answers table place answer = By table (λ cause. answer ≡ refused place cause) (answer ≡ Ok tt)

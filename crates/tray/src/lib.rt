@@ -1,8 +1,8 @@
 #![tactic(auto)]
 
 ghost use Rattle.std.specs.Prelude.{◌≡◌};
-ghost use Rattle.shelf.specs.Trays.{tray, TrayStores};
-ghost use Rattle.shelf.proofs.Trays.{tray_lawful};
+ghost use Rattle.tray.specs.Trays.{tray, TrayStores};
+ghost use Rattle.tray.specs.Lawful.{lawful as tray_lawful};
 
 use faults::ShelfFault;
 use shelf::Shelf;

@@ -3,7 +3,7 @@ use Rattle.std.specs.Str.{bytes_eq}
 use Rattle.std.proofs.lemmas.Slice.Eq.{bytes_eq-Decides}
 use Rattle.std.proofs.lemmas.List.{take_rest}
 use Rattle.std.proofs.lemmas.Bool.{true≢false, cases_Bool}
-use Rattle.modes.specs.Cascade.{Opens}
+use Rattle.modes.specs.Cascade.{CascadeOpens}
 use Rattle.faults.proofs.Results.{handed_on}
 use Rattle.locked.specs.Locked.{magic}
 use Rattle.locked.proofs.Holding.{nonce_of, sign_of, other_word, this_word}
@@ -39,4 +39,4 @@ returns g c =
     ] in
     this_word f (g.met.C.Cipher.gives_blocks c.args.cipher.now) key file c.args.out.now
     (λ i. (c.type_inv.key i).fits) (λ i. (c.type_inv.file i).fits) _ c.open.new.out (λ i. (c.type_inv.out i).fits) ok.0 ok.2 ok.3
-    word (subst (λ t. Opens f key (nonce_of f key file) magic t (sign_of f key file) c.args.out.now c.open.result c.open.new.out) (take_rest file 56) c.open.ensures.opens)
+    word (subst (λ t. CascadeOpens f key (nonce_of f key file) magic t (sign_of f key file) c.args.out.now c.open.result c.open.new.out) (take_rest file 56) c.open.ensures.opens)

@@ -1,6 +1,7 @@
 use mathlib.Core.Path.{refl}
 use Rattle.saturnin.specs.Bits.{bit, nibble}
-use Rattle.saturnin.specs.Cube.{table, register, word}
+use Rattle.octets.specs.Lists.{table}
+use Rattle.saturnin.specs.Cube.{register, word}
 use Rattle.saturnin.specs.Layers.{σ₀, σ₁, SR_slice, SR_sheet, SR, α, ⊕, M_row}
 use Rattle.saturnin.specs.Rounds.{clock, rotated}
 use Rattle.settled.proofs.Counters.{counter_16, counter_20}

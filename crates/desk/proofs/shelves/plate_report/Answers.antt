@@ -1,6 +1,6 @@
 use Rattle.std.proofs.Common.{rules, arith, string_bytes}
 use Rattle.std.proofs.lemmas.Grind.{common_steps}
-use Rattle.shelf.specs.Plates.{Fit}
+use Rattle.plate.specs.Plates.{Fit}
 use Rattle.desk.proofs.Memory.{told_of_fit}
 use Rattle.desk.proofs.shelves.plate_report.Goals as goal
 

@@ -2,8 +2,8 @@ use Rattle.std.proofs.Common.{◌≡◌, ℕ, Bool, true, false, not, cond, eqb,
 use Rattle.std.proofs.lemmas.Iterator.{YieldsList-from_range}
 use Rattle.std.proofs.lemmas.Iterator.Consumers.{YieldsList-from_filter, count_from_yields_List}
 use borrow.Author.Tests.{tests}
-use Rattle.shelf.specs.Plates.{mark, used}
-use Rattle.shelf.proofs.Counts.{counted}
+use Rattle.plate.specs.Plates.{mark, used}
+use Rattle.octets.proofs.Counts.{counted}
 use Rattle.plate.proofs.cells.count_used.Goals as goal
 
 turned : (b : Bool) (x y : ℕ) → cond b x y ≡ cond (not b) y x

@@ -2,7 +2,7 @@ use Rattle.std.proofs.Common.{◌≡◌, ℕ, ◌+◌, ◌-◌, refl, subst, rul
 use Rattle.std.proofs.lemmas.Iterator.{cases_from_any, YieldsList-from_range}
 use borrow.Author.Tests.{tests}
 use Rattle.faults.specs.Tables.{Not}
-use Rattle.shelf.specs.Plates.{mark}
+use Rattle.plate.specs.Plates.{mark}
 use Rattle.plate.proofs.Ranges.{of_any}
 use Rattle.plate.proofs.cells.has_gap.Goals as goal
 

@@ -1,7 +1,7 @@
 use Rattle.std.proofs.Common.{ℕ, ◌<◌, ◌≤◌, refl, rules, arith}
 use Rattle.std.proofs.lemmas.Iterator.{cases_from_all, YieldsList-from_range}
 use borrow.Author.Tests.{tests}
-use Rattle.shelf.specs.Plates.{mark}
+use Rattle.plate.specs.Plates.{mark}
 use Rattle.plate.proofs.Ranges.{of_all}
 use Rattle.plate.proofs.cells.marks_fit.Goals as goal
 

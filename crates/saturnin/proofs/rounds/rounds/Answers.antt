@@ -12,9 +12,9 @@ loop-slice-init g c = refl
 pub loop-slice-preserved : goal.loop-slice-preserved
 loop-slice-preserved g c =
     let k = c.args.constants in
-    let whole = long k.of.d k.of.r k.of.r k.rounds.now k.scheduled in
-    let D = k.of.d in
-    let R = k.of.r in
+    let whole = long k.of.separator k.of.super_rounds k.of.super_rounds k.rounds.now k.scheduled in
+    let D = k.of.separator in
+    let R = k.of.super_rounds in
     let K = g.F.Form.cube c.args.key in
     let i = c.loop-slice.slice-index in
     let s = g.F.Form.cube c.bitxor-s.result in
@@ -29,9 +29,9 @@ loop-slice-preserved g c =
 pub returns-in-Some : goal.returns-in-Some
 returns-in-Some g c =
     let k = c.args.constants in
-    let whole = long k.of.d k.of.r k.of.r k.rounds.now k.scheduled in
-    let D = k.of.d in
-    let R = k.of.r in
+    let whole = long k.of.separator k.of.super_rounds k.of.super_rounds k.rounds.now k.scheduled in
+    let D = k.of.separator in
+    let R = k.of.super_rounds in
     let K = g.F.Form.cube c.args.key in
     let i = c.loop-slice.slice-index in
     let f = c.as_chunks.ensures in
@@ -43,6 +43,6 @@ returns-in-Some g c =
 pub returns-in_default : goal.returns-in_default
 returns-in_default g c =
     let k = c.args.constants in
-    let whole = long k.of.d k.of.r k.of.r k.rounds.now k.scheduled in
+    let whole = long k.of.separator k.of.super_rounds k.of.super_rounds k.rounds.now k.scheduled in
     let f = c.as_chunks.ensures in
-    c.loop-slice.invariant ∙ ap₂ (rounds (g.F.Form.cube c.args.key) k.of.d k.of.r) (omega (arith, f.front_len, f.back_len, whole, c.in_default.ensures.item.3)) (g.met.F.Form.adds _ _ _ c.bitxor-s.ensures)
+    c.loop-slice.invariant ∙ ap₂ (rounds (g.F.Form.cube c.args.key) k.of.separator k.of.super_rounds) (omega (arith, f.front_len, f.back_len, whole, c.in_default.ensures.item.3)) (g.met.F.Form.adds _ _ _ c.bitxor-s.ensures)

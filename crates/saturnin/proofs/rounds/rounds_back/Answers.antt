@@ -13,20 +13,20 @@ loop-slice-init g c =
     let f = c.as_chunks.ensures in
     let e : c.into_iter-slice-iterator.result.iter.rest.now ≡ c.as_chunks.result.0.now = search rules in
     let k = c.args.constants in
-    let whole = long k.of.d k.of.r k.of.r k.rounds.now k.scheduled in
+    let whole = long k.of.separator k.of.super_rounds k.of.super_rounds k.rounds.now k.scheduled in
     let l : length c.into_iter-slice-iterator.result.iter.rest.now ≡ length k.rounds.now / 2 = ap length e ∙ f.front_len in
     record {
       pairs = in_pairs none _ _ (e ∙ f.front) l;
       fit = omega (arith, l, whole);
-      undone = ap (λ n. rounds⁻¹ (g.F.Form.cube c.args.key) k.of.d k.of.r (2 * (2 * n)) (g.F.Form.cube c.match-first.s)) (l ∙ ap (λ n. n / 2) whole);
+      undone = ap (λ n. rounds⁻¹ (g.F.Form.cube c.args.key) k.of.separator k.of.super_rounds (2 * (2 * n)) (g.F.Form.cube c.match-first.s)) (l ∙ ap (λ n. n / 2) whole);
     }
 
 pub loop-slice-preserved : goal.loop-slice-preserved
 loop-slice-preserved g c =
     let k = c.args.constants in
-    let whole = long k.of.d k.of.r k.of.r k.rounds.now k.scheduled in
-    let D = k.of.d in
-    let R = k.of.r in
+    let whole = long k.of.separator k.of.super_rounds k.of.super_rounds k.rounds.now k.scheduled in
+    let D = k.of.separator in
+    let R = k.of.super_rounds in
     let K = g.F.Form.cube c.args.key in
     let e = c.in-Some-2.ensures.steps in
     let i = length c.next.new.self.iter.rest.now in
@@ -48,9 +48,9 @@ pub returns : goal.returns
 unfolding rounds⁻¹
 returns g c =
     let k = c.args.constants in
-    let whole = long k.of.d k.of.r k.of.r k.rounds.now k.scheduled in
-    let D = k.of.d in
-    let R = k.of.r in
+    let whole = long k.of.separator k.of.super_rounds k.of.super_rounds k.rounds.now k.scheduled in
+    let D = k.of.separator in
+    let R = k.of.super_rounds in
     let K = g.F.Form.cube c.args.key in
     let f = c.as_chunks.ensures in
     let e : length c.loop-slice.slice-iterator.iter.rest.now ≡ 0 = c.in-None-2.ensures.steps.0 in

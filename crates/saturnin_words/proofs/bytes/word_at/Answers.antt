@@ -1,5 +1,6 @@
 use Rattle.std.proofs.Common.{◌≡◌, ℕ, ◌+◌, ◌*◌, ◌∙◌, ap₂, arith}
-use Rattle.saturnin.specs.Cube.{at, word, register}
+use Rattle.octets.specs.Lists.{at}
+use Rattle.saturnin.specs.Cube.{word, register}
 use Rattle.saturnin_words.proofs.bytes.word_at.Goals as goal
 
 -- the bytes of register j + 8, by their places

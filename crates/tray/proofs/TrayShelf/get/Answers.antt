@@ -1,6 +1,6 @@
 use Rattle.std.proofs.Common.{◌+◌, ◌*◌, refl, ◌∙◌}
 use Rattle.octets.proofs.Writes.{part_is}
-use Rattle.shelf.specs.Trays.{tray}
+use Rattle.tray.specs.Trays.{tray}
 use Rattle.shelf.proofs.Tables.{get_done}
 use Rattle.tray.proofs.TrayShelf.get.Goals as goal
 

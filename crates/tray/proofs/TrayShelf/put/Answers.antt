@@ -1,8 +1,8 @@
 use Rattle.std.proofs.Common.{◌*◌, length, refl}
 use Rattle.octets.proofs.Writes.{put_is}
-use Rattle.shelf.specs.Trays.{tray}
+use Rattle.tray.specs.Trays.{tray}
 use Rattle.shelf.proofs.Tables.{put_allowed}
-use Rattle.shelf.proofs.Trays.{tray_puts, tray_stores}
+use Rattle.tray.proofs.Trays.{tray_puts, tray_stores}
 use Rattle.tray.proofs.TrayShelf.put.Goals as goal
 
 pub returns : goal.returns

@@ -1,6 +1,6 @@
 use Rattle.std.proofs.Common.{rules}
-use Rattle.saturnin.specs.Meaning.{Bytes}
-use Rattle.logs.proofs.Keeping.{kept}
+use Rattle.cipher.specs.Meaning.{Bytes}
+use Rattle.box_model.proofs.Keeping.{kept}
 use Rattle.archive_box.proofs.boxes.ArchiveBox.new.Goals as goal
 
 pub returns-clause-law : goal.returns-clause-law

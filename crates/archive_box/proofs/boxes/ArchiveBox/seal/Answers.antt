@@ -1,5 +1,5 @@
 use Rattle.std.proofs.Common.{Err, sym, ap, subst}
-use Rattle.logs.specs.Calls.{Seals}
+use Rattle.box_model.specs.Calls.{Seals}
 use Rattle.archive_box.specs.Boxes.{made, state}
 use Rattle.archive_box.proofs.boxes.ArchiveBox.seal.Goals as goal
 

@@ -1,6 +1,6 @@
 use Rattle.std.proofs.Common.{◌≡◌, length, sym, ◌∙◌, refl, ap₂, rules}
 use Rattle.faults.proofs.Results.{never_both, handed_on}
-use Rattle.sheets.specs.Sheets.{sealed}
+use Rattle.records.specs.Sheets.{sheet_under}
 use Rattle.numbers.specs.Listed.{listed}
 use Rattle.archive_box.specs.Boxes.{made, state}
 use Rattle.archive_box.proofs.Sealings.{seal_refused, put_done, seal_done}
@@ -30,6 +30,6 @@ returns-clause-seals g c =
     let label : c.unwrap-label.result.now ≡ c.args.label.now = search rules in
     let put = put_done m s c.args.number c.args.place c.args.label.now c.args.message.now c.args.bytes.now clear c.seal.new.bytes c.put.result (g.S.Shelf.meaning c.put.new.self) long c.put.ensures.puts in
     let done = c.seal.ensures.1 clear.1.0 in
-    let e = done.1 ∙ ap₂ (λ n l. sealed f c.args.self.now.key n c.args.place l c.args.message.now) c.nonce-nonce.ensures label in
+    let e = done.1 ∙ ap₂ (λ n l. sheet_under f c.args.self.now.key n c.args.place l c.args.message.now) c.nonce-nonce.ensures label in
     seal_done m s c.args.number c.args.place c.args.label.now c.args.message.now c.args.bytes.now clear c.seal.new.bytes
     (record { shelf = g.S.Shelf.meaning c.put.new.self; next = s.next; out = listed c.take_out.new.self }) e put.1 refl c.take_out.ensures

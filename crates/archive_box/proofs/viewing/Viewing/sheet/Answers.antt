@@ -1,5 +1,5 @@
 use Rattle.std.proofs.Common.{sym, subst, ◌∙◌, ap, arith, rules}
-use Rattle.sheets.specs.Records.{number_in}
+use Rattle.records.specs.Records.{number_in}
 use Rattle.archive_box.specs.Viewings.{Shows}
 use Rattle.archive_box.proofs.Viewings.{length_is, room_is, message_is}
 use Rattle.archive_box.proofs.viewing.Viewing.sheet.Goals as goal

@@ -1,6 +1,6 @@
 use Rattle.std.proofs.Common.{refl, arith}
-use Rattle.shelf.specs.Plates.{cells}
-use Rattle.shelf.proofs.Cells.{no_gap}
+use Rattle.plate.specs.Plates.{cells}
+use Rattle.plate.proofs.Marks.{no_gap}
 use Rattle.plate.proofs.plates.Plate.check.Goals as goal
 
 pub returns-in-1-to-4096 : goal.returns-in-1-to-4096

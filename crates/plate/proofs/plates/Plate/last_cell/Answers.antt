@@ -1,6 +1,6 @@
 use Rattle.std.proofs.Common.{◌≡◌, sym, ap, ◌∙◌, subst, arith}
-use Rattle.shelf.specs.Plates.{cells, last_cell, LastCell, held}
-use Rattle.shelf.proofs.Cells.{last_law}
+use Rattle.plate.specs.Plates.{cells, last_cell, LastCell, held}
+use Rattle.plate.proofs.Marks.{last_law}
 use Rattle.plate.proofs.plates.Plate.last_cell.Goals as goal
 
 pub returns : goal.returns

@@ -1,8 +1,8 @@
 use Rattle.std.proofs.Common.{◌+◌, ◌*◌, Some, None, sym, ap, ◌∙◌, arith}
 use Rattle.octets.specs.Octets.{zeros}
 use Rattle.octets.proofs.Writes.{part_is}
-use Rattle.shelf.specs.Plates.{cells, held, plate}
-use Rattle.shelf.proofs.Cells.{last_is}
+use Rattle.plate.specs.Plates.{cells, held, plate}
+use Rattle.plate.proofs.Marks.{last_is}
 use Rattle.shelf.proofs.Tables.{get_allowed, get_done}
 use Rattle.plate.proofs.plates.PlateShelf.get.Goals as goal
 

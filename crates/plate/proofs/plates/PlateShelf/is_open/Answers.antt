@@ -1,7 +1,7 @@
 use Rattle.std.proofs.Common.{arith}
 use Rattle.std.proofs.Math.Facts.{ltb_yes, yes_ltb}
-use Rattle.shelf.specs.Plates.{cells}
-use Rattle.shelf.proofs.Cells.{unused_left, left_unused}
+use Rattle.plate.specs.Plates.{cells}
+use Rattle.plate.proofs.Marks.{unused_left, left_unused}
 use Rattle.plate.proofs.plates.PlateShelf.is_open.Goals as goal
 
 pub returns-then-place-self-clause-while_one_remains : goal.returns-then-place-self-clause-while_one_remains

@@ -1,7 +1,7 @@
 use Rattle.std.proofs.Common.{ℕ, ◌<◌, ◌≢◌, length, refl, ap, ◌∙◌, ap₂, arith, length-set, get_or-set_other, get_or-set_same, below_more}
 use Rattle.saturnin.specs.Rounds.{clocked}
 use Rattle.saturnin.proofs.Clocks.{clocked_next}
-use Rattle.saturnin.proofs.Tables.{is_table_of}
+use Rattle.octets.proofs.Tables.{is_table_of}
 use Rattle.saturnin.proofs.schedule.Schedule.new.Goals as goal
 
 pub loop-pair-init : goal.loop-pair-init

@@ -1,6 +1,6 @@
 use Rattle.std.proofs.Common.{rules}
 use Rattle.saturnin.specs.Cube.{register}
-use Rattle.saturnin.proofs.Made.{made_table}
+use Rattle.octets.proofs.Made.{made_table}
 use Rattle.saturnin_cube.proofs.bytes.Registers.of.Goals as goal
 
 pub returns : goal.returns

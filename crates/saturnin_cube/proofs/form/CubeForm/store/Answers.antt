@@ -1,7 +1,8 @@
 use Rattle.std.proofs.Common.{◌≡◌, ◌/◌, ◌%◌, rules, ◌∙◌}
 use Rattle.std.specs.Int.{to_le_bytes, w16}
-use Rattle.saturnin.specs.Cube.{at, cube_register, table}
-use Rattle.saturnin.proofs.Made.{made_table}
+use Rattle.octets.specs.Lists.{at, table}
+use Rattle.saturnin.specs.Cube.{cube_register}
+use Rattle.octets.proofs.Made.{made_table}
 use Rattle.saturnin_cube.specs.Nibbles.{nibbles}
 use Rattle.saturnin_cube.proofs.Loads.{stored}
 use Rattle.saturnin_cube.proofs.form.CubeForm.store.Goals as goal

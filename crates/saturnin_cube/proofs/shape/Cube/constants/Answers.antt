@@ -1,6 +1,6 @@
 use Rattle.std.proofs.Common.{rules, [], ◌∷◌}
 use Rattle.saturnin.specs.Bits.{bit}
-use Rattle.saturnin.specs.Cube.{at}
+use Rattle.octets.specs.Lists.{at}
 use Rattle.saturnin.specs.Rounds.{constants}
 use Rattle.saturnin_cube.proofs.Made.{made_rows}
 use Rattle.saturnin_cube.proofs.shape.Cube.constants.Goals as goal

@@ -1,7 +1,8 @@
 use Rattle.std.proofs.Common.{◌*◌, ◌/◌, ◌%◌, refl, ap, ◌∙◌, add_comm, arith}
 use Rattle.std.specs.Int.{from_bool}
 use Rattle.saturnin.specs.Bits.{bit, number}
-use Rattle.saturnin.specs.Cube.{at, cube_register}
+use Rattle.octets.specs.Lists.{at}
+use Rattle.saturnin.specs.Cube.{cube_register}
 use Rattle.saturnin_cube.specs.Nibbles.{nibbles}
 use Rattle.saturnin_cube.proofs.Flags.{flag_lt}
 use Rattle.saturnin_cube.proofs.Nibbles.{row_is}

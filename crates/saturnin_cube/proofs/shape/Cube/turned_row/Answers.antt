@@ -1,5 +1,5 @@
 use Rattle.std.proofs.Common.{rules, ◌+◌, ◌*◌}
-use Rattle.saturnin.specs.Cube.{at}
+use Rattle.octets.specs.Lists.{at}
 use Rattle.saturnin_cube.specs.Nibbles.{nibbles}
 use Rattle.saturnin_cube.specs.Parts.{turned_from}
 use Rattle.saturnin_cube.proofs.Made.{made_row}

@@ -1,5 +1,5 @@
 use Rattle.std.proofs.Common.{ℕ, ◌<◌, rules}
-use Rattle.saturnin.specs.Cube.{at}
+use Rattle.octets.specs.Lists.{at}
 use Rattle.saturnin_words.proofs.Loading.{loaded}
 use Rattle.saturnin_words.proofs.form.StateForm.load.Goals as goal
 

@@ -1,5 +1,5 @@
 use Rattle.std.proofs.Common.{ap, arith, length-set}
-use Rattle.saturnin.specs.Cube.{at}
+use Rattle.octets.specs.Lists.{at}
 use Rattle.saturnin_words.proofs.Loading.{words, word_more, all_stored}
 use Rattle.saturnin_words.proofs.form.StateForm.store.Goals as goal
 

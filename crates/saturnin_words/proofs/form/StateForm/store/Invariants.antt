@@ -1,5 +1,5 @@
 use Rattle.std.proofs.Common.{◌≡◌, ℕ, ◌/◌, ◌%◌, ◌<◌, length}
-use Rattle.saturnin.specs.Cube.{at}
+use Rattle.octets.specs.Lists.{at}
 use Rattle.saturnin_words.proofs.Loading.{byte}
 use Rattle.saturnin_words.proofs.form.StateForm.store.Given as goal
 

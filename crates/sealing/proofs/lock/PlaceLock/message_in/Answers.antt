@@ -2,7 +2,7 @@ use Rattle.std.proofs.Common.{◌≡◌, ℕ, length, take, replicate, ap, ◌�
 use Rattle.std.proofs.lemmas.List.{length-take, length-replicate, take_at}
 use Rattle.faults.proofs.Results.{handed_on}
 use Rattle.octets.specs.Octets.{part}
-use Rattle.sheets.specs.Sheets.{associated}
+use Rattle.records.specs.Sheets.{associated}
 use Rattle.sealing.proofs.Reading.{open_refused, open_done}
 use Rattle.sealing.proofs.lock.PlaceLock.message_in.Goals as goal
 

@@ -1,0 +1,7 @@
+#![tactic(auto)]
+
+mod parameters;
+mod traits;
+
+pub use parameters::Parameters;
+pub use traits::{Cipher, TwoWayCipher};

@@ -1,8 +1,0 @@
-#![tactic(auto)]
-
-ghost use Rattle.logs.specs.Laws.{AlwaysAnswerable};
-
-// What a box is, its calls and its logs are defined in specs/. A theorem on them: every call has an answer in every state.
-pub fn every_call_has_an_answer()
-    ensures { AlwaysAnswerable }
-{}

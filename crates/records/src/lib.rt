@@ -1,0 +1,5 @@
+#![tactic(auto)]
+
+mod records;
+
+pub use records::number_in;

@@ -1,4 +1,0 @@
-pub mod Records
-pub mod Inventory
-pub mod Reports
-pub mod Sheets

@@ -1,0 +1,2 @@
+pub mod Trays
+pub mod Lawful
