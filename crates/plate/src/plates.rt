@@ -1,28 +1,29 @@
 ghost use Rattle.std.specs.Prelude.{◌≡◌, ℕ, ◌<◌, ◌≤◌, None, T};
 ghost use Rattle.faults.specs.Tables.{By, Checks, Clear};
 ghost use Rattle.plate.specs.Plates.{cells, mark, NoMarkAbove, fit_table, used as used_of, Remains, LastCell, held, plate, PlateStores};
-ghost use Rattle.plate.proofs.Putting.{plate_lawful};
+ghost use Rattle.shelf.specs.Meaning.{Lawful};
 
 use crate::cells::{cells_in, count_used, has_gap, last_cell_of, marks_fit};
 use faults::{ShelfCause, ShelfFault};
 use shelf::Shelf;
 
-// Cells in lent memory, at most 8,192, each written once; 1 to 4,096 places, or none where the memory is unfit. As an Option
-// the count would be no plainer: an unfit plate is a shelf of 0 places. The memory is one slice: the bytes after the cells are
-// the lender's. The used cells are counted in the making, so that a put need not count them again.
+/// Cells of 1,026 bytes in lent memory, at most 8,192, each written once; 1 to 4,096 places, or none where the memory is unfit.
+/// Spare bytes after the cells are the lender's. The used cells are counted in the making.
 #[derive(Drop)]
 pub struct Plate<'a> {
     memory: &'a mut [u8],
     places: u32,
     used: usize,
     ghost few: { places ≤ 4096 },
+    ghost lawful: { Lawful (plate memory.now places) },
     ghost counted: { used ≡ used_of memory.now (cells memory.now) },
     ghost marks: { 0 < places → NoMarkAbove memory.now places },
     ghost order: { (i j : ℕ) → (0 < places) × (i < j) × (j < cells memory.now) × (mark memory.now i ≡ 0) → mark memory.now j ≡ 0 },
 }
 
 impl<'a> Plate<'a> {
-    // The check before the making.
+    /// The check before the making: refused with 13 where the count of places is not 1 to 4,096, a mark is above it, or a used
+    /// cell stands after an unused one.
     pub fn check(memory: &[u8], places: u32) -> Result<(), ShelfFault>
         ensures { let rows = fit_table memory.now places in Checks rows (λ _. Clear rows) result }
     {
@@ -32,6 +33,7 @@ impl<'a> Plate<'a> {
         }
     }
 
+    /// A plate on the memory; where the check refuses it, a plate without places.
     pub fn new(memory: &'a mut [u8], places: u32) -> Plate<'a>
         ensures same { result.memory.now ≡ memory.old }
         ensures lent { result.memory.ghost_name ≡ memory.entry.ghost_name }
@@ -50,7 +52,7 @@ impl<'a> Plate<'a> {
         }
     }
 
-    // The lent memory.
+    /// The lent memory, spare bytes included.
     pub fn memory(&self) -> &[u8]
         ensures { result.now ≡ self.now.memory.now }
     {
@@ -58,7 +60,8 @@ impl<'a> Plate<'a> {
         self.memory
     }
 
-    // The cell that has the record of a place; none where the place was never put. The place holds that record, or zeros.
+    /// The cell, from 0, that has the record of a place; none where the place was never put. The place holds that record, or
+    /// zeros.
     pub fn last_cell(&self, place: u32) -> Option<usize>
         ensures inside { place < self.now.places → LastCell self.now.memory.now place (cells self.now.memory.now) result }
         ensures holds { place < self.now.places → (plate self.now.memory.now self.now.places).bytes place ≡ held self.now.memory.now result }
@@ -74,7 +77,7 @@ impl<'a> Plate<'a> {
 impl Shelf for Plate<'_> {
     ghost meaning = { λ s. plate s.memory.now s.places };
 
-    ghost lawful = { λ s. plate_lawful s.memory.now s.places s.few };
+    ghost lawful = { λ s. s.lawful };
 
     ghost stores = { λ s p bytes t. PlateStores s.memory.now p bytes t.memory.now × (t.memory.ghost_name ≡ s.memory.ghost_name) × (t.places ≡ s.places) };
 

@@ -1,2 +1,1 @@
 pub mod Trays
-pub mod Lawful

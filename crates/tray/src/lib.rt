@@ -2,19 +2,22 @@
 
 ghost use Rattle.std.specs.Prelude.{◌≡◌};
 ghost use Rattle.tray.specs.Trays.{tray, TrayStores};
-ghost use Rattle.tray.specs.Lawful.{lawful as tray_lawful};
+ghost use Rattle.shelf.specs.Meaning.{Lawful};
 
 use faults::ShelfFault;
 use shelf::Shelf;
 
-// Places one after another in lent memory, at most 4,096, all of them always open. The memory is one slice: its length need not
-// be one of whole places, and the bytes after them are the lender's.
+/// Places of 1,024 bytes one after another in lent memory, at most 4,096, all of them always open. The memory may have any
+/// length; spare bytes at its end are the lender's.
 #[derive(Drop)]
 pub struct Tray<'a> {
     memory: &'a mut [u8],
+    ghost lawful: { Lawful (tray memory.now) },
 }
 
 impl<'a> Tray<'a> {
+    /// A tray on the memory, whatever it holds.
+    #[tactic(auto, using(crate::proofs::Trays::tray_lawful))]
     pub fn new(memory: &'a mut [u8]) -> Tray<'a>
         ensures same { result.memory.now ≡ memory.old }
         ensures lent { result.memory.ghost_name ≡ memory.entry.ghost_name }
@@ -22,7 +25,7 @@ impl<'a> Tray<'a> {
         Tray { memory }
     }
 
-    // The lent memory.
+    /// The lent memory, spare bytes included.
     pub fn memory(&self) -> &[u8]
         ensures { result.now ≡ self.now.memory.now }
     {
@@ -34,7 +37,7 @@ impl<'a> Tray<'a> {
 impl Shelf for Tray<'_> {
     ghost meaning = { λ t. tray t.memory.now };
 
-    ghost lawful = { λ t. tray_lawful t.memory.now };
+    ghost lawful = { λ t. t.lawful };
 
     ghost stores = { λ s p bytes t. TrayStores s.memory.now p bytes t.memory.now × (t.memory.ghost_name ≡ s.memory.ghost_name) };
 

@@ -2,8 +2,11 @@ use Rattle.std.proofs.Common.{◌*◌, length, refl}
 use Rattle.octets.proofs.Writes.{put_is}
 use Rattle.tray.specs.Trays.{tray}
 use Rattle.shelf.proofs.Tables.{put_allowed}
-use Rattle.tray.proofs.Trays.{tray_puts, tray_stores}
+use Rattle.tray.proofs.Trays.{tray_lawful, tray_puts, tray_stores}
 use Rattle.tray.proofs.TrayShelf.put.Goals as goal
+
+pub invariant_of-self : goal.invariant_of-self
+invariant_of-self c = record { lawful = tray_lawful _ }
 
 pub returns : goal.returns
 returns c =
