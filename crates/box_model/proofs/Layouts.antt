@@ -7,8 +7,8 @@ use Rattle.octets.proofs.Numbers.{length-big_endian, spelt-big_endian, spelt-zer
 use Rattle.modes.specs.Cascade.{ctr, tag}
 use Rattle.modes.proofs.Streams.{length-ctr, ctr_twice}
 use Rattle.shelf.specs.Meaning.{Meaning}
-use Rattle.records.specs.Records.{empty, number_in}
-use Rattle.records.specs.Sheets.{sheet, nonce_of, associated, head_of, length_in, tag_in, WellFormed, with_text, text_in, right_tag}
+use Rattle.records.specs.Records.{empty, number_in, length_in, tag_in, WellFormed, with_text, text_in}
+use Rattle.records.specs.Sheets.{sheet, nonce_of, associated, head_of, right_tag}
 use Rattle.records.proofs.Layouts.{Layout, layout}
 use Rattle.box_model.specs.States.{State, Made}
 use Rattle.box_model.proofs.Fair.{Fair}

@@ -13,8 +13,8 @@ use Rattle.octets.specs.Octets.{zeros, part}
 use Rattle.modes.specs.Bytes.{padded}
 use Rattle.modes.specs.Short.{BlockHolds, filled}
 use Rattle.shelf.specs.Meaning.{Meaning, Placed}
-use Rattle.records.specs.Records.{empty, number_in}
-use Rattle.records.specs.Sheets.{sheet, slip, length_in, tag_in, right_tag, opened}
+use Rattle.records.specs.Records.{empty, number_in, length_in, tag_in}
+use Rattle.records.specs.Sheets.{sheet, slip, right_tag, opened}
 use Rattle.box_model.specs.States.{State, Made, last_number}
 use Rattle.numbers.specs.Counting.{count, without}
 use Rattle.box_model.specs.Calls.{Draws, Seals, Slips, Voids, Clears, Reads, Unslips, TellsNumber, Done, refused, not_out, draw_table, seal_table, slip_table, void_table, clear_table, read_table, unslip_table}
