@@ -12,7 +12,7 @@ returns-then-is_zero g c =
     let s = state g.S.Shelf.meaning c.args.self.now in
     let e : c.map_err.result ≡ with_place c.args.place c.record.result = placed_by c.args.place _ (λ e x p. search rules) c.record.result c.map_err.result c.map_err.ensures.cases in
     let long : length c.in_ok-bytes.bytes ≡ 1024 = search rules in
-    number_by m s c.args.place c.record.result c.in_ok-bytes.bytes (sym e ∙ c.in_ok-bytes.was) c.record.ensures _ (λ h. refl) (λ h. absurd (h (c.if-is_zero.ensures ∙ ap zeros long)))
+    number_by m s c.args.place c.record.result c.in_ok-bytes.bytes (sym e ∙ c.in_ok-bytes.was) c.record.ensures _ (λ h. refl) (λ h. absurd (h (c.if-is_empty.ensures)))
 
 pub returns : goal.returns
 returns g c =
@@ -20,4 +20,4 @@ returns g c =
     let s = state g.S.Shelf.meaning c.args.self.now in
     let e : c.map_err.result ≡ with_place c.args.place c.record.result = placed_by c.args.place _ (λ e x p. search rules) c.record.result c.map_err.result c.map_err.ensures.cases in
     let long : length c.in_ok-bytes.bytes ≡ 1024 = search rules in
-    number_by m s c.args.place c.record.result c.in_ok-bytes.bytes (sym e ∙ c.in_ok-bytes.was) c.record.ensures _ (λ h. absurd (c.if-is_zero.ensures (h ∙ ap zeros (sym long)))) (λ h. ap Some c.number_in.ensures)
+    number_by m s c.args.place c.record.result c.in_ok-bytes.bytes (sym e ∙ c.in_ok-bytes.was) c.record.ensures _ (λ h. absurd (c.if-is_zero.ensures (h ∙ ap zeros (sym long)))) (λ h. ap Some c.number.ensures)
