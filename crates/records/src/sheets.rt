@@ -13,7 +13,8 @@ pub struct Record<'a> {
 impl<'a> Record<'a> {
     /// Whether every byte is zero, as in an empty place.
     pub fn is_empty(&self) -> bool
-        ensures { let bytes = self.now.bytes.now in MatchBool result (bytes ≡ empty) (bytes ≢ empty) }
+        ensures { let bytes = self.now.bytes.now in
+            MatchBool result (bytes ≡ empty) (bytes ≢ empty) }
     {
         let bytes = self.bytes;
         octets::is_zero(bytes)
