@@ -12,7 +12,8 @@ use cipher::TwoWayCipher;
 use faults::BoxFault;
 use plate::Plate;
 
-/// A box on the plate in this memory, of so many places, or of none where the memory is unfit for them. It keeps the lent memory, which is as it was.
+/// A box on the plate in this memory, of so many places, or of none where the memory is unfit for
+/// them. It keeps the lent memory, which is as it was.
 pub fn box_on_plate<C: TwoWayCipher>(
     memory: &mut [u8],
     places: u32,
@@ -35,8 +36,8 @@ pub fn box_on_plate<C: TwoWayCipher>(
     ArchiveBox::new(cipher, Plate::new(memory, places), key, sign, first)
 }
 
-/// Seals a sheet under the next number of a box on a plate: its record then stands in the lent memory
-/// and in the buffer. Refused as `seal_next` is; memory and buffer then stay.
+/// Seals a sheet under the next number of a box on a plate: its record then stands in the lent
+/// memory and in the buffer. Refused as `seal_next` is; memory and buffer then stay.
 pub fn seal_in_plate<C: TwoWayCipher>(
     asked: &mut ArchiveBox<C, Plate<'_>>,
     place: u32,
@@ -49,7 +50,8 @@ pub fn seal_in_plate<C: TwoWayCipher>(
     ensures memory { MatchResult result
         (λ _. PlateStores asked.old.shelf.memory.now place buffer.new asked.new.shelf.memory.now)
         (λ _. asked.new.shelf.memory.now ≡ asked.old.shelf.memory.now) }
-    ensures seals { Tells C.Cipher.forward C.TwoWayCipher.back (λ shelf. plate shelf.memory.now shelf.places)
+    ensures seals { Tells C.Cipher.forward C.TwoWayCipher.back
+        (λ shelf. plate shelf.memory.now shelf.places)
         (λ made s. SealsNext made s place label.now message.now buffer.old result buffer.new)
         asked.old }
     ensures places { asked.new.shelf.places ≡ asked.old.shelf.places }

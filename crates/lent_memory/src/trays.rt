@@ -27,8 +27,8 @@ pub fn box_on_tray<C: TwoWayCipher>(memory: &mut [u8], making: Making<C>) -> Arc
     ArchiveBox::new(cipher, Tray::new(memory), key, sign, first)
 }
 
-/// Seals a sheet under the next number of a box on a tray: its record then stands in the lent memory
-/// and in the buffer. Refused as `seal_next` is; memory and buffer then stay.
+/// Seals a sheet under the next number of a box on a tray: its record then stands in the lent
+/// memory and in the buffer. Refused as `seal_next` is; memory and buffer then stay.
 pub fn seal_in_tray<C: TwoWayCipher>(
     asked: &mut ArchiveBox<C, Tray<'_>>,
     place: u32,
