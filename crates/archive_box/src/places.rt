@@ -20,8 +20,8 @@ impl<C: TwoWayCipher, S: Shelf> ArchiveBox<C, S> {
         &self.shelf
     }
 
-    /// Puts 1,024 zero bytes at the place. Refused with 4 outside and 5 where the place is shut, each
-    /// with the place; box and shelf then stay.
+    /// Puts 1,024 zero bytes at the place. Refused with 4 outside and 5 where the place is shut,
+    /// each with the place; box and shelf then stay.
     pub fn clear(&mut self, place: u32) -> Result<(), BoxFault>
         ensures shelf { MatchResult result
             (λ _. S.Shelf.stores self.old.shelf place empty self.new.shelf)
@@ -48,7 +48,8 @@ impl<C: TwoWayCipher, S: Shelf> ArchiveBox<C, S> {
     // The same, without the place in a fault.
     fn opened(&self, place: u32, bytes: &mut [u8]) -> Result<Found, BoxFault>
         ensures { Tells C.Cipher.forward C.TwoWayCipher.back S.Shelf.meaning
-            (λ made s. Reads made s place bytes.old (number_and_length (with_place place result)) bytes.new)
+            (λ made s. Reads made s place bytes.old
+            (number_and_length (with_place place result)) bytes.new)
             self.now }
     {
         let bytes = bytes.as_mut_array().ok_or(BoxCause::Length)?;

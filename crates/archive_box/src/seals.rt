@@ -30,7 +30,8 @@ impl<C: TwoWayCipher, S: Shelf> ArchiveBox<C, S> {
             (λ _. S.Shelf.stores self.old.shelf place bytes.new self.new.shelf)
             (λ _. self.new ≡ self.old) }
         ensures seals { Turns C.Cipher.forward C.TwoWayCipher.back S.Shelf.meaning
-            (λ made s. Seals made s number.value place label.now message.now bytes.old (fault_of result) bytes.new)
+            (λ made s. Seals made s number.value place label.now message.now bytes.old
+            (fault_of result) bytes.new)
             self.old self.new }
     {
         match self.sealed(number.value, place, label, message, bytes) {
@@ -58,7 +59,8 @@ impl<C: TwoWayCipher, S: Shelf> ArchiveBox<C, S> {
             (λ _. S.Shelf.stores self.old.shelf place bytes.new self.new.shelf)
             (λ _. self.new ≡ self.old) }
         ensures seals { Turns C.Cipher.forward C.TwoWayCipher.back S.Shelf.meaning
-            (λ made s. Seals made s number place label.now message.now bytes.old (with_place place result) bytes.new)
+            (λ made s. Seals made s number place label.now message.now bytes.old
+            (with_place place result) bytes.new)
             self.old self.new }
     {
         self.sealable(number, place, label, message, bytes)?;

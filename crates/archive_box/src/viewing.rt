@@ -10,7 +10,8 @@ pub struct Viewing<'a> {
     record: &'a mut [u8],
 }
 
-/// A sheet as a viewing shows it: its number, its label of 46 bytes, and its message of at most 928.
+/// A sheet as a viewing shows it: its number, its label of 46 bytes, and its message of at most
+/// 928.
 #[derive(Clone, Copy)]
 pub struct Sheet<'a> {
     pub number: u64,

@@ -1,4 +1,4 @@
-use Rattle.std.proofs.Common.{◌≡◌, length, sym, ◌∙◌, subst, rules}
+use Rattle.std.proofs.Common.{◌≡◌, length, subst, rules}
 use Rattle.shelf.specs.Meaning.{Gets}
 use Rattle.archive_box.specs.Boxes.{made, state}
 use Rattle.archive_box.proofs.Reading.{read_by}
