@@ -1,7 +1,8 @@
 use Rattle.std.proofs.Common.{◌∙◌}
-use Rattle.saturnin.specs.Layers.{sheet_from, SR_sheet}
+use Rattle.saturnin.specs.Layers.{sheet_from}
+use Rattle.saturnin.specs.Layers.{SR_sheet}
 use Rattle.saturnin.proofs.Places.{same_places}
-use Rattle.saturnin_cube.proofs.form.CubeForm.sheets.Goals as goal
+use Rattle.saturnin_words.proofs.form.StateForm.shift_sheets.Goals as goal
 
 pub returns : goal.returns
 unfolding SR_sheet

@@ -1,7 +1,7 @@
 use Rattle.std.proofs.Common.{◌∙◌}
 use Rattle.saturnin.specs.Layers.{slice_to, SR_slice⁻¹}
 use Rattle.saturnin.proofs.Places.{same_places}
-use Rattle.saturnin_cube.proofs.form.CubeForm.slices_back.Goals as goal
+use Rattle.saturnin_cube.proofs.form.CubeForm.shift_slices_back.Goals as goal
 
 pub returns : goal.returns
 unfolding SR_slice⁻¹

@@ -1,8 +1,7 @@
 use Rattle.std.proofs.Common.{◌∙◌}
-use Rattle.saturnin.specs.Layers.{sheet_to}
-use Rattle.saturnin.specs.Layers.{SR_sheet⁻¹}
+use Rattle.saturnin.specs.Layers.{sheet_to, SR_sheet⁻¹}
 use Rattle.saturnin.proofs.Places.{same_places}
-use Rattle.saturnin_words.proofs.form.StateForm.sheets_back.Goals as goal
+use Rattle.saturnin_cube.proofs.form.CubeForm.shift_sheets_back.Goals as goal
 
 pub returns : goal.returns
 unfolding SR_sheet⁻¹
