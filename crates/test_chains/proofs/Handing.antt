@@ -1,11 +1,11 @@
 -- A text that is handed to a chain: its full blocks one by one, and its tail.
-use Rattle.std.proofs.Common.{◌≡◌, ℕ, ◌+◌, ◌*◌, ◌/◌, ◌<◌, ◌≤◌, List, [], length, take, drop, get_or, Result, sym, ap, ◌∙◌, subst, refl, arith}
+use Rattle.std.proofs.Common.{◌≡◌, ℕ, ◌+◌, ◌*◌, ◌/◌, ◌<◌, ◌≤◌, List, [], length, drop, get_or, Result, ap, ◌∙◌, refl, arith}
 use Rattle.std.specs.Simd.{first_chunks}
 use Rattle.std.proofs.lemmas.List.{length-take, length-drop}
 use Rattle.faults.specs.declared.ModeFault.{ModeFault}
 use Rattle.cipher.specs.Meaning.{BlockFunction}
 use Rattle.modes.specs.Bytes.{padded, full_blocks, block_at, tail_of}
-use Rattle.modes.specs.Chains.{link, links, TakesBlock, TakesTail}
+use Rattle.modes.specs.Chains.{links, TakesBlock, TakesTail}
 use Rattle.modes.proofs.Linking.{links_step, block_of}
 
 -- a full block has 32 bytes

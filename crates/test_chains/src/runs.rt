@@ -30,7 +30,7 @@ pub(crate) fn tag_of_run<C: Cipher>(
 ) -> Result<[u8; 32], ModeFault>
     ensures { Checks (counter_table (length nonce.now))
         (λ tag. tag
-            ≡ tag_value (C.Cipher.forward cipher.now) key.now nonce.now (handed associated.now) (handed text.now))
+        ≡ tag_value (C.Cipher.forward cipher.now) key.now nonce.now (handed associated.now) (handed text.now))
         result }
 {
     let chain = DataChain::start(cipher, key, &CounterBlock::new(nonce, 0)?);

@@ -1,4 +1,4 @@
-use Rattle.std.proofs.Common.{◌≡◌, [], length, take, ap, ◌∙◌, refl, sym, arith}
+use Rattle.std.proofs.Common.{ap, ◌∙◌, refl, sym}
 use Rattle.std.proofs.lemmas.List.{take_all}
 use Rattle.modes.specs.Bytes.{padded, full_blocks}
 use Rattle.modes.specs.Chains.{links}
