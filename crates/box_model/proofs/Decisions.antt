@@ -7,8 +7,8 @@ use Rattle.octets.specs.Octets.{zeros, part}
 use Rattle.modes.specs.Bytes.{padded}
 use Rattle.modes.specs.Short.{BlockHolds}
 use Rattle.shelf.specs.Meaning.{Open, open_at}
-use Rattle.records.specs.Records.{empty}
-use Rattle.records.specs.Sheets.{length_in, tag_in, WellFormed, right_tag}
+use Rattle.records.specs.Records.{empty, length_in, tag_in, WellFormed}
+use Rattle.records.specs.Sheets.{right_tag}
 use Rattle.numbers.specs.Counting.{count}
 use Rattle.box_model.specs.States.{Made, State}
 use Rattle.box_model.specs.Calls.{not_out, draw_table, seal_table, slip_table, void_table, clear_table, read_table, unslip_table, number_table}
