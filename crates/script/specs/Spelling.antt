@@ -44,6 +44,10 @@ SpellsAfter name rest (Make sign first) =
 SpellsAfter name rest (Read place) = (name ≡ codes "read") × OnlyNumeral 32 rest place
 SpellsAfter name rest (Ask call) = SpellsBoxCall name rest call
 
+-- the word that a line begins with
+abbrev pub name_of : (line : List ℕ) → List ℕ
+name_of line = first_word (without_blanks line)
+
 -- a line that spells a call
-abbrev pub Spells : (line : List ℕ) → Call → Type 0
-Spells line call = SpellsAfter (first_word (without_blanks line)) (after_word (without_blanks line)) call
+abbrev pub LineSpells : (line : List ℕ) → Call → Type 0
+LineSpells line call = SpellsAfter (name_of line) (after_word (without_blanks line)) call

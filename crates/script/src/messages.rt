@@ -1,6 +1,6 @@
 ghost use Rattle.std.specs.Prelude.{◌≡◌, ℕ, List, IfOk, MatchOption};
 ghost use Rattle.script.specs.Messages.{SpellsMessage, Starred, bytes_of};
-ghost use Rattle.script.specs.Words.{Reads};
+ghost use Rattle.script.specs.Words.{Parses};
 
 use crate::words::{count_in, is_numeral};
 use std::alloc::{AllocError, Global};
@@ -16,7 +16,7 @@ pub enum Message<'a> {
 impl<'a> Message<'a> {
     // `-` is a message of no bytes, and `*` with a count one of so many bytes 'x'; another text stands for its bytes.
     pub(crate) fn of(text: &'a [u8]) -> Option<Message<'a>>
-        ensures { Reads (SpellsMessage text.now) result }
+        ensures { Parses (SpellsMessage text.now) result }
     {
         if let Some(digits) = starred(text) {
             return Some(Message::Many(count_in(digits)?));

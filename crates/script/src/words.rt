@@ -2,7 +2,7 @@ ghost use Rattle.std.specs.Prelude.{◌↔◌, ◌≡◌, ◌≢◌, ℕ, List, 
 ghost use Rattle.std.specs.Char.{is_ascii_digit};
 ghost use Rattle.std.specs.List.{list_all};
 ghost use Rattle.std.specs.Str.Parse.{IsNumeral};
-ghost use Rattle.script.specs.Words.{is_blank as blank, end_of_word, start_of_word, first_word, after_word, without_blanks as bare, IsText, Only, Numeral, OnlyNumeral, Reads};
+ghost use Rattle.script.specs.Words.{is_blank as blank, end_of_word, start_of_word, first_word, after_word, without_blanks as bare, IsText, Only, Numeral, OnlyNumeral, Parses};
 
 // Words are parted by spaces and tabs.
 fn is_blank(b: u8) -> bool
@@ -93,19 +93,19 @@ pub(crate) fn text_of(word: &[u8]) -> Option<&str>
 
 // The number that a word spells.
 fn number_in(word: &[u8]) -> Option<u64>
-    ensures { Reads (Numeral 64 word.now) result }
+    ensures { Parses (Numeral 64 word.now) result }
 {
     text_of(word)?.parse::<u64>().ok()
 }
 
 fn place_in(word: &[u8]) -> Option<u32>
-    ensures { Reads (Numeral 32 word.now) result }
+    ensures { Parses (Numeral 32 word.now) result }
 {
     text_of(word)?.parse::<u32>().ok()
 }
 
 pub(crate) fn count_in(word: &[u8]) -> Option<u16>
-    ensures { Reads (Numeral 16 word.now) result }
+    ensures { Parses (Numeral 16 word.now) result }
 {
     text_of(word)?.parse::<u16>().ok()
 }
@@ -131,13 +131,13 @@ pub(crate) fn only_text(text: &[u8]) -> Option<&str>
 }
 
 pub(crate) fn only_number(text: &[u8]) -> Option<u64>
-    ensures { Reads (OnlyNumeral 64 text.now) result }
+    ensures { Parses (OnlyNumeral 64 text.now) result }
 {
     number_in(only(text)?)
 }
 
 pub(crate) fn only_place(text: &[u8]) -> Option<u32>
-    ensures { Reads (OnlyNumeral 32 text.now) result }
+    ensures { Parses (OnlyNumeral 32 text.now) result }
 {
     place_in(only(text)?)
 }
