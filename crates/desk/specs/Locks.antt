@@ -3,7 +3,7 @@ use Rattle.std.specs.Prelude.{◌≡◌, ◌≤◌, ℕ, ◌+◌, ◌-◌, List,
 use Rattle.faults.specs.Tables.{Table, By, Clear}
 use Rattle.faults.specs.declared.ModeFault.{ModeFault}
 use Rattle.saturnin.specs.Rounds.{forward}
-use Rattle.locked.specs.Locked.{locked, lock_table, HoldsOnly, unlock_table}
+use Rattle.locked.specs.Locked.{locked, lock_table, FileHoldsOnly, unlock_table}
 use Rattle.desk.specs.declared.unmade.Unmade.{Unmade}
 use Rattle.desk.specs.declared.unmade.Unmade.TheVariants.{Refused, Unfit, Memory}
 
@@ -31,7 +31,7 @@ MayUnlock key file = (key ≡ 32) × (56 ≤ file) × (file ≤ 65592)
 
 -- an answer: the message that the file holds, a refusal by the table, or no memory for a message that the file may hold
 abbrev pub UnlockAnswer : {Bytes : Type 0} → (bytes : Bytes → List ℕ) → (key file : List ℕ) → Result Bytes Unmade → Type 0
-UnlockAnswer bytes key file (Ok message) = Clear (unlock_rows key file) × HoldsOnly forward key file (bytes message)
+UnlockAnswer bytes key file (Ok message) = Clear (unlock_rows key file) × FileHoldsOnly forward key file (bytes message)
 UnlockAnswer bytes key file (Err (Refused fault)) = By (unlock_rows key file) (λ row. fault ≡ row) ⊥
 UnlockAnswer bytes key file (Err (Unfit fault)) = ⊥
 UnlockAnswer bytes key file (Err Memory) = MayUnlock (length key) (length file)

@@ -1,7 +1,7 @@
 use Rattle.std.proofs.Common.{vec_items, sym, ◌∙◌, subst, arith}
 use Rattle.faults.proofs.Results.{handed_on}
 use Rattle.saturnin.specs.Rounds.{forward}
-use Rattle.locked.specs.Locked.{HoldsOnly}
+use Rattle.locked.specs.Locked.{FileHoldsOnly}
 use Rattle.desk.specs.Locks.{Unlocking}
 use Rattle.std.proofs.lemmas.List.{take_at}
 use Rattle.desk.proofs.Buffers.{unlock_done, unlock_refused}
@@ -24,4 +24,4 @@ returns c =
     let key = c.args.key.now in
     let file = c.args.file.now in
     let d = unlock_done key file c.deref_mut.result.now c.unlock.new.out c.in_ok-unlock.field-0 (omega (arith, l, made, s)) c.in_ok-unlock.ensures in
-    (d.0, subst (HoldsOnly forward key file) (sym (take_at c.unlock.new.out _ _ (k ∙ l))) d.1)
+    (d.0, subst (FileHoldsOnly forward key file) (sym (take_at c.unlock.new.out _ _ (k ∙ l))) d.1)
