@@ -7,7 +7,8 @@ use Rattle.faults.specs.declared.ShelfFault.{ShelfFault}
 use Rattle.faults.proofs.Tables.{by_follows}
 use Rattle.shelf.specs.Meaning.{Meaning, Placed, Puts}
 use Rattle.records.specs.Sheets.{sheet}
-use Rattle.box_model.specs.States.{Made, State, without}
+use Rattle.box_model.specs.States.{Made, State}
+use Rattle.numbers.specs.Counting.{without}
 use Rattle.box_model.specs.Calls.{refused, seal_table, Seals}
 use Rattle.archive_box.specs.Numbers.{with_place}
 

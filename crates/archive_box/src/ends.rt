@@ -1,6 +1,6 @@
 ghost use Rattle.std.specs.Prelude.{◌≡◌, ◌<◌, ℕ, None, Err, MatchResult};
 ghost use Rattle.faults.specs.declared.BoxCause.TheVariants.{NotOut};
-ghost use Rattle.box_model.specs.States.{count};
+ghost use Rattle.numbers.specs.Counting.{count};
 ghost use Rattle.box_model.specs.Calls.{Voids, refused};
 ghost use Rattle.numbers.specs.Listed.{listed};
 ghost use Rattle.archive_box.specs.Boxes.{fixed, made, state};

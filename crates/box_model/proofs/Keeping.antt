@@ -17,7 +17,9 @@ use Rattle.modes.specs.Short.{short, BlockHolds, filled}
 use Rattle.modes.proofs.Texts.{length-padded, padded-bytes}
 use Rattle.modes.proofs.Shortly.{padded_once}
 use Rattle.records.specs.Sheets.{nonce_of, slip}
-use Rattle.box_model.specs.States.{State, Made, Fair, without}
+use Rattle.box_model.specs.States.{State, Made}
+use Rattle.box_model.proofs.Fair.{Fair}
+use Rattle.numbers.specs.Counting.{without}
 use Rattle.box_model.specs.Calls.{Done, refused, slip_table}
 use Rattle.box_model.specs.Logs.{Line, Log, nothing_yet, and_then, Handed, Does, slips, read, unslip}
 use Rattle.box_model.specs.Laws.{drawn, ended, leaves, latest, Kept}

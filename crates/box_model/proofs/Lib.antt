@@ -1,3 +1,4 @@
+pub mod Fair
 pub mod Counts
 pub mod Numbers
 pub mod Tables

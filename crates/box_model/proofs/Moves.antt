@@ -7,7 +7,8 @@ use Rattle.faults.specs.declared.BoxCause.{BoxCause}
 use Rattle.faults.specs.declared.BoxFault.{BoxFault}
 use Rattle.shelf.specs.Meaning.{Meaning, Placed}
 use Rattle.records.specs.Records.{empty}
-use Rattle.box_model.specs.States.{State, Made, count, without, last_number}
+use Rattle.box_model.specs.States.{State, Made, last_number}
+use Rattle.numbers.specs.Counting.{count, without}
 use Rattle.box_model.specs.Calls.{Done, refused, draw_table, seal_table, slip_table, void_table, clear_table}
 use Rattle.box_model.specs.Logs.{Line, Does, draw, seal, slips, void, clear, read, unslip}
 use Rattle.box_model.specs.Laws.{drawn, ended, Left, a_sheet, nothing, leaves}

@@ -1,7 +1,8 @@
 -- What holds of the numbers drawn, ended and out, whichever lines brought them.
 use Rattle.std.proofs.Common.{◌≡◌, ℕ, ◌+◌, ◌<◌, ◌≤◌, ◌⊎◌, List, [], ◌∷◌, ◌++◌, length, sym, refl, ap, ◌∙◌, inl, inr, ⊎_elim, arith}
 use Rattle.std.proofs.lemmas.List.{length_push}
-use Rattle.box_model.specs.States.{count, without, last_number}
+use Rattle.box_model.specs.States.{last_number}
+use Rattle.numbers.specs.Counting.{count, without}
 use Rattle.box_model.specs.Laws.{apart}
 use Rattle.box_model.proofs.Counts.{count-append, count-without, count_one, apart_push, apart_more}
 

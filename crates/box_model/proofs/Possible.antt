@@ -15,9 +15,10 @@ use Rattle.modes.specs.Short.{BlockHolds, filled}
 use Rattle.shelf.specs.Meaning.{Meaning, Placed}
 use Rattle.records.specs.Records.{empty, number_in}
 use Rattle.records.specs.Sheets.{sheet, slip, length_in, tag_in, right_tag, opened}
-use Rattle.box_model.specs.States.{State, Made, last_number, count, without}
+use Rattle.box_model.specs.States.{State, Made, last_number}
+use Rattle.numbers.specs.Counting.{count, without}
 use Rattle.box_model.specs.Calls.{Draws, Seals, Slips, Voids, Clears, Reads, Unslips, TellsNumber, Done, refused, not_out, draw_table, seal_table, slip_table, void_table, clear_table, read_table, unslip_table}
-use Rattle.box_model.specs.Laws.{AlwaysAnswerable}
+use Rattle.box_model.specs.Answers.{AlwaysAnswerable}
 use Rattle.box_model.proofs.Tables.{outcome, dec_not, dec_both, dec_true, dec_below}
 
 same_list : (xs ys : List ℕ) → Dec (xs ≡ ys)

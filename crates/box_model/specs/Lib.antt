@@ -1,4 +1,6 @@
 pub mod States
 pub mod Calls
 pub mod Logs
+pub mod Effects
 pub mod Laws
+pub mod Answers

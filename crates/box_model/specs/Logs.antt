@@ -1,5 +1,5 @@
 -- Logs: lines, each one call on the box as the line before left it.
-use Rattle.std.specs.Prelude.{ℕ, List, [], ◌∷◌, ◌++◌, Result}
+use Rattle.std.specs.Prelude.{◌≡◌, ℕ, List, [], ◌∷◌, ◌++◌, Result}
 use Rattle.faults.specs.declared.BoxFault.{BoxFault}
 use Rattle.octets.specs.Octets.{Octets}
 use Rattle.box_model.specs.States.{Made, State}
@@ -17,23 +17,23 @@ pub data Line : Type 0 where
 
 -- a line turns the box from s to t: the very definition of its call
 abbrev pub Does : Made → (s : State) → Line → (t : State) → Type 0
-Does made s (draw answer) t = Draws made s answer t
-Does made s (seal number place label message buffer answer buffer') t = Seals made s number place label message buffer answer buffer' t
-Does made s (slips number message buffer answer buffer') t = Slips made s number message buffer answer buffer' t
-Does made s (void number answer) t = Voids made s number answer t
-Does made s (clear place answer) t = Clears made s place answer t
-Does made s (read place buffer answer buffer') t = Reads made s place buffer answer buffer' t
-Does made s (unslip bytes buffer answer buffer') t = Unslips made s bytes buffer answer buffer' t
+Does made s (draw a) t = Draws made s a t
+Does made s (seal n p l m b a b') t = Seals made s n p l m b a b' t
+Does made s (slips n m b a b') t = Slips made s n m b a b' t
+Does made s (void n a) t = Voids made s n a t
+Does made s (clear p a) t = Clears made s p a t
+Does made s (read p b a b') t = (t ≡ s) × Reads made s p b a b'
+Does made s (unslip x b a b') t = (t ≡ s) × Unslips made s x b a b'
 
 -- bytes handed in are bytes
 abbrev pub Handed : Line → Type 0
-Handed (draw answer) = Unit {0}
-Handed (seal number place label message buffer answer buffer') = Octets label × Octets message
-Handed (slips number message buffer answer buffer') = Octets message
-Handed (void number answer) = Unit {0}
-Handed (clear place answer) = Unit {0}
-Handed (read place buffer answer buffer') = Unit {0}
-Handed (unslip bytes buffer answer buffer') = Unit {0}
+Handed (draw a) = Unit {0}
+Handed (seal n p l m b a b') = Octets l × Octets m
+Handed (slips n m b a b') = Octets m
+Handed (void n a) = Unit {0}
+Handed (clear p a) = Unit {0}
+Handed (read p b a b') = Unit {0}
+Handed (unslip x b a b') = Unit {0}
 
 -- a log of a box: its lines, oldest first, from the state s to the state t
 pub data Log (made : Made) (s : State) : List Line → State → Type 0 where

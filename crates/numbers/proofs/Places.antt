@@ -3,7 +3,7 @@ use Rattle.std.proofs.Common.{◌≡◌, ℕ, zero, suc, ◌<◌, cond, eqb, Lis
 use Rattle.std.specs.List.{remove, list_any}
 use Rattle.std.proofs.lemmas.Bool.{cases_eq, eq-eqb, ne_eqb}
 use Rattle.faults.specs.Tables.{Not}
-use Rattle.box_model.specs.States.{count, without}
+use Rattle.numbers.specs.Counting.{count, without}
 
 -- whether a number stands in a list, and how often
 pub counted : (n : ℕ) (xs : List ℕ) → MatchBool (list_any (λ m. eqb m n) xs) (0 < count n xs) (count n xs ≡ 0)

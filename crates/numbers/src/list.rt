@@ -1,5 +1,5 @@
 ghost use Rattle.std.specs.Prelude.{◌≡◌, ◌<◌, ◌≤◌, [], ◌∷◌, ◌++◌, length, MatchBool, nat_le};
-ghost use Rattle.box_model.specs.States.{count, without};
+ghost use Rattle.numbers.specs.Counting.{count, without};
 ghost use Rattle.numbers.specs.Listed.{listed};
 
 use arrayvec::ArrayVec;
