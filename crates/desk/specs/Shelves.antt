@@ -9,8 +9,11 @@ use Rattle.desk.specs.declared.unmade.Unmade.{Unmade}
 use Rattle.desk.specs.declared.unmade.Unmade.TheVariants.{Refused, Unfit, Memory}
 
 -- an answer: what a fit plate holds, the fault of an unfit one, or no memory to report on a fit one
-abbrev pub PlateAnswer : {Text : Type 0} → (text : Text → List ℕ) → (image : List ℕ) (places : ℕ) → Result Text Unmade → Type 0
-PlateAnswer text image places (Ok report) = Fit image places × Reports (plate image places) (text report)
-PlateAnswer text image places (Err (Unfit fault)) = Not (Fit image places) × (fault ≡ shelf_fault None UnfitCause)
+abbrev pub PlateAnswer : {Text : Type 0} → (text : Text → List ℕ) → (image : List ℕ) (places : ℕ)
+    → Result Text Unmade → Type 0
+PlateAnswer text image places (Ok report) =
+    Fit image places × Reports (plate image places) (text report)
+PlateAnswer text image places (Err (Unfit fault)) =
+    Not (Fit image places) × (fault ≡ shelf_fault None UnfitCause)
 PlateAnswer text image places (Err (Refused fault)) = ⊥
 PlateAnswer text image places (Err Memory) = Fit image places

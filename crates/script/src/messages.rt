@@ -14,7 +14,8 @@ pub enum Message<'a> {
 }
 
 impl<'a> Message<'a> {
-    // `-` is a message of no bytes, and `*` with a count one of so many bytes 'x'; another text stands for its bytes.
+    // `-` is a message of no bytes, and `*` with a count one of so many bytes 'x'; another text
+    // stands for its bytes.
     pub(crate) fn of(text: &'a [u8]) -> Option<Message<'a>>
         ensures { Parses (SpellsMessage text.now) result }
     {
@@ -41,7 +42,8 @@ impl<'a> Message<'a> {
 
 // The digits of a text that is a star with a count.
 fn starred(text: &[u8]) -> Option<&[u8]>
-    ensures { MatchOption result ((digits : List ℕ) → ¬ (Starred text.now digits)) (λ digits. Starred text.now digits.now) }
+    ensures { MatchOption result ((digits : List ℕ) → ¬ (Starred text.now digits))
+        (λ digits. Starred text.now digits.now) }
 {
     match text {
         [b'*', digits @ ..] if is_numeral(digits) => Some(digits),

@@ -58,14 +58,18 @@ fn first_letter(text: &[u8]) -> Option<usize>
 
 // The number that a text begins with, and what follows it.
 pub(crate) fn split_number(text: &[u8]) -> Option<(u64, &[u8])>
-    ensures { MatchOption result ((n : ℕ) → ¬ (Numeral 64 (first_word text.now) n)) (λ found. Numeral 64 (first_word text.now) found.0 × (found.1.now ≡ after_word text.now)) }
+    ensures { MatchOption result ((n : ℕ) → ¬ (Numeral 64 (first_word text.now) n))
+        (λ found. Numeral 64 (first_word text.now) found.0
+            × (found.1.now ≡ after_word text.now)) }
 {
     let (word, rest) = split_word(text);
     Some((number_in(word)?, rest))
 }
 
 pub(crate) fn split_place(text: &[u8]) -> Option<(u32, &[u8])>
-    ensures { MatchOption result ((n : ℕ) → ¬ (Numeral 32 (first_word text.now) n)) (λ found. Numeral 32 (first_word text.now) found.0 × (found.1.now ≡ after_word text.now)) }
+    ensures { MatchOption result ((n : ℕ) → ¬ (Numeral 32 (first_word text.now) n))
+        (λ found. Numeral 32 (first_word text.now) found.0
+            × (found.1.now ≡ after_word text.now)) }
 {
     let (word, rest) = split_word(text);
     Some((place_in(word)?, rest))
@@ -73,7 +77,8 @@ pub(crate) fn split_place(text: &[u8]) -> Option<(u32, &[u8])>
 
 // The word that a text is, if it is one word and no more.
 fn only(text: &[u8]) -> Option<&[u8]>
-    ensures { MatchOption result (after_word text.now ≢ []) (λ w. (w.now ≡ first_word text.now) × (after_word text.now ≡ [])) }
+    ensures { MatchOption result (after_word text.now ≢ [])
+        (λ w. (w.now ≡ first_word text.now) × (after_word text.now ≡ [])) }
 {
     match split_word(text) {
         (word, []) => Some(word),
