@@ -15,7 +15,8 @@ use std::io::BufRead;
 use std::{fmt, io};
 use tray::Tray;
 
-// Works boxes by a script on standard input, and prints its log. Whether every line of it was done.
+/// Works boxes by a script on standard input, and prints its log. Whether every line of it was
+/// done.
 pub fn work_script(rt: &HostRuntime) -> io::Result<bool> {
     let mut nothing = [];
     let mut none = NoBox {
@@ -63,7 +64,8 @@ impl<R: BufRead + Drop> Desk<'_, R> {
         Ok(())
     }
 
-    // Works a box on the shelf that is loaded. The next box is on the same, unless another is loaded meanwhile.
+    // Works a box on the shelf that is loaded. The next box is on the same, unless another is
+    // loaded meanwhile.
     fn work_on_shelf(&mut self, making: Making) -> io::Result<Option<Making>> {
         let mut shelf = match self.settings.loaded.take() {
             Some(loaded) => loaded,
@@ -122,7 +124,7 @@ impl<R: BufRead + Drop> Desk<'_, R> {
         let told = match Call::of(line) {
             Some(Call::Set(setting)) => self.settings.set(self.rt, setting),
             Some(Call::Make { sign, first }) => {
-                let making = self.settings.making(self.rt.alloc(), sign, first);
+                let making = self.settings.making(sign, first);
                 return self.tell_making(making);
             }
             Some(Call::Read { place }) => {
@@ -160,7 +162,8 @@ impl<R: BufRead + Drop> Desk<'_, R> {
         }
     }
 
-    // A line of the log: the line of the script and its answer; one that was no call for a box has its number before it.
+    // A line of the log: the line of the script and its answer; one that was no call for a box has
+    // its number before it.
     fn tell<T: fmt::Display + Drop>(&mut self, told: Result<T, Problem>) -> io::Result<()> {
         let rt = self.rt;
         let number = self.script.number;

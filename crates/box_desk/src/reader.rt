@@ -30,7 +30,8 @@ impl<R: BufRead + Drop> Script<R> {
         }
     }
 
-    // Goes on to the next line. One that is too long is passed over, and what it begins with is held.
+    // Goes on to the next line. One that is too long is passed over, and what it begins with is
+    // held.
     pub(crate) fn go_on(&mut self) -> io::Result<Next> {
         self.line.clear();
         let mut limited = self.reader.by_ref().take(ROOM);

@@ -1,6 +1,6 @@
 ghost use Rattle.std.specs.Prelude.{codes};
-ghost use Rattle.script.specs.Spelling.{Spells, SpellsAfter};
-ghost use Rattle.script.specs.Words.{Reads};
+ghost use Rattle.script.specs.Spelling.{LineSpells, SpellsAfter};
+ghost use Rattle.script.specs.Words.{Parses};
 
 use crate::box_calls::BoxCall;
 use crate::settings::Setting;
@@ -20,14 +20,14 @@ pub enum Call<'a> {
 impl<'a> Call<'a> {
     // The call that a line is, if it is one.
     pub fn of(line: &'a [u8]) -> Option<Call<'a>>
-        ensures { Reads (Spells line.now) result }
+        ensures { Parses (LineSpells line.now) result }
     {
         let (name, rest) = split_word(without_blanks(line));
         Call::named(text_of(name)?, rest)
     }
 
     fn named(name: &str, rest: &'a [u8]) -> Option<Call<'a>>
-        ensures { Reads (SpellsAfter name.now rest.now) result }
+        ensures { Parses (SpellsAfter name.now rest.now) result }
     {
         match name {
             "make" => Call::of_make(rest),
@@ -40,7 +40,7 @@ impl<'a> Call<'a> {
     }
 
     fn of_make(rest: &'a [u8]) -> Option<Call<'a>>
-        ensures { Reads (SpellsAfter (codes "make") rest.now) result }
+        ensures { Parses (SpellsAfter (codes "make") rest.now) result }
     {
         let (sign, first) = split_word(rest);
         Some(Call::Make {
