@@ -217,6 +217,11 @@ expect 'an empty script' 0 '' ''
 printf 'draw\n' | { script; echo $status > said; }
 status=$(cat said)
 expect 'a call before there is a box' 1 'line 1: draw: no box yet' ''
+{ head -c 65535 /dev/zero | tr '\0' x; echo; head -c 65536 /dev/zero | tr '\0' x; echo; echo draw; } | { script; echo $status > said; }
+status=$(cat said)
+expect 'lines of the greatest length and over it' 1 "line 1: $(head -c 65535 /dev/zero | tr '\0' x): no such call
+line 2: over 65535 bytes, the most that a line has
+line 3: draw: no box yet" ''
 printf 'key key\ntray tray\nmake 0102030405060708 5\ndraw\nseal 5 7 rose a window\nread 7\nsave tray.again\n' | { script; echo $status > said; }
 status=$(cat said)
 expect 'a sheet on a tray' 0 'key key: done
