@@ -1,8 +1,12 @@
 #!/bin/sh
-# Uses of chains, numbers and viewings that must be refused before any program is built: by the compiler, or by the prover where
-# a line says so. Each change is made in a copy of the crates, which is checked, and then taken back.
-# Run from the repository's folder. The crates as they are have to pass first, so that what is refused is refused for its change;
-# where `rt check` has proved them on this machine, that takes seconds.
+# Uses of chains, numbers and viewings that no program may be built with: the compiler refuses them, or the prover. It tries
+# - data for a text chain, or for one that is closed; a chain from a key that may have another length;
+# - a number used twice, let go, copied, or made up outside its crate;
+# - the same once more where the number's own crate would allow it: by a derive, or by a public field;
+# - a viewing that does not wipe.
+# Each change is made in a copy of the crates, which is checked, and then taken back. The crates as they are have to pass first, so
+# that what is refused is refused for its change. Run from the repository's folder; it takes two minutes where `rt check` has
+# proved the crates on this machine.
 set -u
 home=$PWD
 folder=$(mktemp -d)
@@ -81,3 +85,26 @@ number() {
 number 'a number used twice' 'borrow-e0382' 'let _ = b.void(n); let _ = b.void(n);'
 number 'a number let go' 'linear-value-let-go' 'let _ = b.shelf();'
 number 'a number copied' 'unknown-method.*clone\|unsatisfied-bound' 'let m = n.clone(); let _ = b.void(n); let _ = b.void(m);'
+
+# made_up: a function that makes a number up, outside its crate
+made_up() {
+    change box_desk/src/asks.rt '$a fn made_up() -> Number { Number { value: 7 } }'
+}
+
+made_up
+refused 'a number made up' 'asks.rt' box_desk
+
+# Numbers as their own crate must not have them. The place in the source is said, of the compiler's error or of the prover's.
+place='src/.*\.rt:[0-9]'
+change archive_box/src/number.rt 's|^pub struct Number|#[derive(Drop)]\n&|'
+refused 'numbers that may be let go' "$place" archive_box
+change archive_box/src/number.rt 's|^pub struct Number|#[derive(Clone, Copy)]\n&|'
+refused 'numbers that may be copied' "$place" archive_box
+change archive_box/src/number.rt 's|^    pub(crate) value: u64|    pub value: u64|'
+made_up
+refused 'numbers that may be made up' "$place" box_desk
+
+change archive_box/src/viewing.rt '/^impl Drop for Viewing/,/^}/d'
+refused 'a viewing that does not wipe' 'tests.rt.*linear-value-let-go' archive_box --test
+
+exit $failed
