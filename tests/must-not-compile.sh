@@ -105,6 +105,6 @@ made_up
 refused 'numbers that may be made up' "$place" box_desk
 
 change archive_box/src/viewing.rt '/^impl Drop for Viewing/,/^}/d'
-refused 'a viewing that does not wipe' 'tests.rt.*linear-value-let-go' archive_box --test
+refused 'a viewing that does not wipe' 'linear-value-let-go' archive_box --test
 
 exit $failed
