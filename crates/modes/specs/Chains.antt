@@ -1,7 +1,7 @@
 -- Chains of blocks over any block function f. The chain value is the key under which the next
 -- block goes.
 use Rattle.std.specs.Prelude.{◌≡◌, ℕ, zero, suc, ◌<◌, List, [], ◌∷◌, length, Ok, Err, Result}
-use Rattle.faults.specs.Causes.{mode_fault, left}
+use Rattle.faults.specs.Causes.{mode_fault}
 use Rattle.faults.specs.Tables.{By, Not}
 use Rattle.faults.specs.declared.ModeCause.TheVariants.{Length, Limit}
 use Rattle.faults.specs.declared.ModeFault.{ModeFault}
