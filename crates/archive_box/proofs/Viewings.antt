@@ -4,7 +4,7 @@ use Rattle.std.proofs.lemmas.List.{length-take, length-drop, take-take}
 use Rattle.std.specs.Array.{IsWholeChunk}
 use Rattle.std.specs.List.{slice_range}
 use Rattle.octets.proofs.Writes.{part_is}
-use Rattle.records.specs.Sheets.{length_in, text_in}
+use Rattle.records.specs.Records.{length_in, text_in}
 use Rattle.sealing.proofs.Forms.{two_spelt}
 
 -- the bytes that a message may take

@@ -1,8 +1,7 @@
 -- What a viewing shows of its buffer.
 use Rattle.std.specs.Prelude.{◌≡◌, ℕ, ◌≤◌, List, length, Option, Some, None}
 use Rattle.faults.specs.Tables.{Not}
-use Rattle.records.specs.Records.{number_in}
-use Rattle.records.specs.Sheets.{label_in, length_in, text_in}
+use Rattle.records.specs.Records.{number_in, label_in, length_in, text_in}
 use Rattle.archive_box.specs.declared.viewing.Sheet.{Sheet}
 
 -- a record buffer, with room for the message that its record tells of

@@ -5,8 +5,8 @@ use Rattle.octets.specs.Octets.{zeros, big_endian, spelt, part}
 use Rattle.octets.proofs.Numbers.{length-big_endian, spelt-big_endian, spelt-zeros}
 use Rattle.modes.specs.Cascade.{ctr, tag}
 use Rattle.modes.proofs.Streams.{length-ctr, ctr_twice}
-use Rattle.records.specs.Records.{empty, number_in}
-use Rattle.records.specs.Sheets.{sheet, nonce_of, associated, head_of, length_in, tag_in, WellFormed, right_tag, opened}
+use Rattle.records.specs.Records.{empty, number_in, length_in, tag_in, WellFormed}
+use Rattle.records.specs.Sheets.{sheet, nonce_of, associated, head_of, right_tag, opened}
 use Rattle.records.proofs.Layouts.{Layout, layout}
 use Rattle.box_model.specs.States.{Made, Fair}
 

@@ -6,8 +6,8 @@ use Rattle.faults.specs.Tables.{Not, Clear}
 use Rattle.faults.specs.declared.BoxFault.{BoxFault}
 use Rattle.modes.specs.Short.{BlockHolds, filled}
 use Rattle.shelf.specs.Meaning.{Meaning, Placed}
-use Rattle.records.specs.Records.{empty, number_in}
-use Rattle.records.specs.Sheets.{sheet, slip, length_in, opened}
+use Rattle.records.specs.Records.{empty, number_in, length_in}
+use Rattle.records.specs.Sheets.{sheet, slip, opened}
 use Rattle.numbers.specs.Counting.{without}
 use Rattle.box_model.specs.States.{Made, State}
 use Rattle.box_model.specs.Calls.{Done, Draws, Seals, Slips, Voids, Clears, Reads, Unslips, TellsNumber, draw_table, seal_table, slip_table, void_table, clear_table, read_table, unslip_table, number_table}

@@ -3,8 +3,8 @@ use Rattle.std.proofs.Common.{◌≡◌, ℕ, ◌<◌, ◌≤◌, ◌^◌, List,
 use Rattle.faults.specs.declared.BoxFault.{BoxFault}
 use Rattle.octets.specs.Octets.{zeros, part}
 use Rattle.shelf.specs.Meaning.{Meaning}
-use Rattle.records.specs.Records.{empty, number_in}
-use Rattle.records.specs.Sheets.{sheet, label_in, length_in, opened}
+use Rattle.records.specs.Records.{empty, number_in, label_in, length_in}
+use Rattle.records.specs.Sheets.{sheet, opened}
 use Rattle.box_model.specs.States.{State, Made, Fair}
 use Rattle.box_model.specs.Calls.{Reads}
 use Rattle.box_model.specs.Effects.{Left, a_sheet, nothing}

@@ -8,6 +8,7 @@ use Rattle.faults.proofs.Results.{never_both}
 use Rattle.octets.specs.Octets.{Octets, big_endian}
 use Rattle.octets.proofs.Numbers.{append-bytes, big_endian_bytes, length-big_endian}
 use Rattle.cipher.specs.Meaning.{Bytes, Takes}
+use Rattle.cipher.proofs.Back.{turned_back}
 use Rattle.modes.specs.Bytes.{padded}
 use Rattle.modes.specs.Short.{short, BlockHolds, filled}
 use Rattle.modes.proofs.Texts.{length-padded, padded-bytes}
@@ -81,7 +82,8 @@ module _ (made : Made) (fair : Fair made) where
       from = (
         small,
         ap (made.back made.key 6 10) back
-            ∙ sym (fair.two_way.only made.key 6 10 (nonce ++ padded 16 message) block taken refl)
+            ∙ sym (turned_back made.forward made.back fair.two_way made.key 6 10 (nonce ++ padded 16 message) block taken
+                (fair.gives_blocks made.key 6 10 _ taken) refl)
             ∙ ap (λ xs. xs ++ padded 16 message) (sym front),
       )
 

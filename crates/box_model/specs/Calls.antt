@@ -8,8 +8,8 @@ use Rattle.faults.specs.declared.BoxCause.TheVariants.{Mode, Shelf, Length, Limi
 use Rattle.faults.specs.declared.BoxFault.{BoxFault}
 use Rattle.modes.specs.Short.{BlockHolds, filled}
 use Rattle.shelf.specs.Meaning.{Open, Placed}
-use Rattle.records.specs.Records.{empty, number_in}
-use Rattle.records.specs.Sheets.{sheet, slip, length_in, tag_in, WellFormed, right_tag, opened}
+use Rattle.records.specs.Records.{empty, number_in, length_in, tag_in, WellFormed}
+use Rattle.records.specs.Sheets.{sheet, slip, right_tag, opened}
 use Rattle.numbers.specs.Counting.{count, without}
 use Rattle.box_model.specs.States.{Made, State, last_number}
 

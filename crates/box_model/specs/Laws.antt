@@ -5,7 +5,7 @@ use Rattle.faults.specs.declared.BoxCause.TheVariants.{Empty}
 use Rattle.faults.specs.declared.BoxFault.{BoxFault}
 use Rattle.octets.specs.Octets.{zeros, part}
 use Rattle.modes.specs.Short.{filled}
-use Rattle.records.specs.Sheets.{label_in}
+use Rattle.records.specs.Records.{label_in}
 use Rattle.numbers.specs.Counting.{count}
 use Rattle.box_model.specs.States.{Made, Fair, State}
 use Rattle.box_model.specs.Logs.{Line, Handed, Does, Log, slips, read, unslip}

@@ -4,7 +4,7 @@ use Rattle.std.proofs.lemmas.List.{length-take, length-drop, get_or-take, get_or
 use Rattle.faults.specs.Tables.{Not}
 use Rattle.octets.specs.Octets.{zeros, spelt, part}
 use Rattle.octets.proofs.Bytewise.{one_by_one}
-use Rattle.records.specs.Sheets.{length_in, WellFormed}
+use Rattle.records.specs.Records.{length_in, WellFormed}
 
 -- two bytes, as the standard library has their number
 pub two_spelt : (from : ℕ) (bs : List ℕ) → from + 2 ≤ length bs → get_or bs from 0 * 256 + get_or bs (from + 1) 0 ≡ spelt (part from 2 bs) 0

@@ -17,8 +17,8 @@ use Rattle.octets.proofs.Numbers.{length-big_endian}
 use Rattle.cipher.specs.Meaning.{BlockFunction}
 use Rattle.modes.specs.Cascade.{ctr, CascadeOpens}
 use Rattle.modes.proofs.Streams.{length-ctr}
-use Rattle.records.specs.Records.{empty}
-use Rattle.records.specs.Sheets.{associated, nonce_in, head_in, length_in, text_in, tag_in, WellFormed, right_tag, message_in}
+use Rattle.records.specs.Records.{empty, nonce_in, head_in, length_in, text_in, tag_in, WellFormed}
+use Rattle.records.specs.Sheets.{associated, right_tag, message_in}
 use Rattle.sealing.specs.Sealing.{open_sheet_table}
 
 module _ (f : BlockFunction) (key : List ℕ) (place : ℕ) (bytes : List ℕ) (n : ℕ) (kl : length key ≡ 32) (long : length bytes ≡ 1024) (is : n ≡ length_in bytes)

@@ -8,8 +8,8 @@ use Rattle.faults.specs.declared.BoxCause.{BoxCause}
 use Rattle.faults.specs.declared.BoxCause.TheVariants.{Mode, Empty, Filling}
 use Rattle.faults.specs.declared.BoxFault.{BoxFault}
 use Rattle.cipher.specs.Meaning.{BlockFunction}
-use Rattle.records.specs.Records.{empty, number_in}
-use Rattle.records.specs.Sheets.{sheet_under, length_in, tag_in, WellFormed, right_tag, opened}
+use Rattle.records.specs.Records.{empty, number_in, length_in, tag_in, WellFormed}
+use Rattle.records.specs.Sheets.{sheet_under, right_tag, opened}
 use Rattle.sealing.specs.declared.found.Found.{Found}
 
 abbrev pub seal_sheet_table : (message : List ℕ) → Table ModeFault

@@ -1,7 +1,7 @@
 ghost use Rattle.std.specs.Prelude.{◌≡◌, length, None, Err, MatchResult};
 ghost use Rattle.faults.specs.Tables.{By, Not};
-ghost use Rattle.records.specs.Records.{empty, number_in as number_of};
-ghost use Rattle.records.specs.Sheets.{length_in as length_of, WellFormed, message_in as message_of};
+ghost use Rattle.records.specs.Records.{empty, number_in as number_of, length_in as length_of, WellFormed};
+ghost use Rattle.records.specs.Sheets.{message_in as message_of};
 ghost use Rattle.sealing.specs.Sealing.{form_table, open_sheet_table, OpensSheet};
 
 use crate::found::Found;

@@ -57,7 +57,7 @@ fn answer(rt: &HostRuntime, record: &Record) -> anyhow::Result<()> {
 
 fn shown(heap: Global, tag: Result<[u8; 32], ModeFault>) -> Result<String, AllocError> {
     match tag {
-        Ok(tag) => hexadecimal::encode(heap, &tag),
+        Ok(tag) => hex::encode(heap, tag.as_slice()),
         Err(fault) => format!(in heap; "{fault}"),
     }
 }

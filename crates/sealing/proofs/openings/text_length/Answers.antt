@@ -1,7 +1,7 @@
 use Rattle.std.proofs.Common.{sym, ap, ◌∙◌, arith}
 use Rattle.faults.specs.Tables.{Not}
 use Rattle.octets.specs.Octets.{zeros}
-use Rattle.records.specs.Sheets.{WellFormed}
+use Rattle.records.specs.Records.{WellFormed}
 use Rattle.sealing.proofs.Forms.{well_formed, not_formed}
 use Rattle.sealing.proofs.openings.text_length.Goals as goal
 use Rattle.sealing.proofs.openings.text_length.Goals.{then-n-gt928-via-then-n-gt928, then-n-gt928-via-else-n-gt928+then-not-is_zero}
