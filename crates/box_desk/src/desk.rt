@@ -1,3 +1,8 @@
+ghost use Rattle.std.specs.Prelude.{◌≡◌, ◌↔◌};
+ghost use Rattle.faults.specs.Tables.{Not};
+ghost use Rattle.script.specs.Names.{NamesCall};
+ghost use Rattle.box_desk.specs.declared.problems.Problem.TheVariants.{NoCall};
+
 use crate::answers::{Answer, Looked};
 use crate::hand::Hand;
 use crate::image::Image;
@@ -197,7 +202,9 @@ fn is_silent(line: &[u8]) -> bool {
 }
 
 // Why a line is no call.
-fn misread(line: &[u8]) -> Problem {
+fn misread(line: &[u8]) -> Problem
+    ensures { (result ≡ NoCall) ↔ Not (NamesCall line.now) }
+{
     match usage_of(line) {
         Some(usage) => Problem::Misspelt(usage),
         None => Problem::NoCall,

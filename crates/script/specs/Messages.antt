@@ -13,7 +13,7 @@ abbrev pub SpellsMessage : (text : List ℕ) → Message → Type 0
 SpellsMessage text (Written bytes) =
     ((text ≡ codes "-") × (bytes.now ≡ []))
     ⊎ ((text ≢ codes "-") × (text ≢ [])
-        × ((digits : List ℕ) → ¬ (Starred text digits)) × (bytes.now ≡ text))
+    × ((digits : List ℕ) → ¬ (Starred text digits)) × (bytes.now ≡ text))
 SpellsMessage text (Many n) =
     (digits : List ℕ) × Starred text digits × (digits_value 10 digits ≡ n) × (n < 2 ^ 16)
 

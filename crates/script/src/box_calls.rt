@@ -5,7 +5,7 @@ ghost use Rattle.script.specs.Words.{Parses};
 use crate::messages::Message;
 use crate::words::{only_number, only_place, only_text, split_number, split_place, split_word};
 
-// A call on a box, other than a read.
+/// A call on a box, other than a read. A number is named by its value.
 #[derive(Clone, Copy)]
 pub enum BoxCall<'a> {
     Draw,

@@ -6,19 +6,21 @@ use crate::box_calls::BoxCall;
 use crate::settings::Setting;
 use crate::words::{only_number, only_place, split_word, text_of, without_blanks};
 
-// What a line of a script calls for.
+/// What a line of a script calls for.
 #[derive(Clone, Copy)]
 pub enum Call<'a> {
+    /// something that the boxes made after it are made with
     Set(Setting<'a>),
-    // a box with a sign in hexadecimal digits
+    /// a box with this sign, in hexadecimal digits, and this first number
     Make { sign: &'a str, first: u64 },
-    // apart from the other calls on a box, since its sheet is only looked at
+    /// a look at the sheet of a place
     Read { place: u32 },
+    /// any other call on a box
     Ask(BoxCall<'a>),
 }
 
 impl<'a> Call<'a> {
-    // The call that a line is, if it is one.
+    /// The call that a line spells, if it spells one.
     pub fn of(line: &'a [u8]) -> Option<Call<'a>>
         ensures { Parses (LineSpells line.now) result }
     {

@@ -5,11 +5,12 @@ ghost use Rattle.script.specs.Words.{Parses};
 use crate::words::{count_in, is_numeral};
 use std::alloc::{AllocError, Global};
 
-// A message as a line has it.
+/// A message as a line has it.
 #[derive(Clone, Copy)]
 pub enum Message<'a> {
+    /// these bytes
     Written(&'a [u8]),
-    // so many bytes 'x'
+    /// so many bytes `x`
     Many(u16),
 }
 
@@ -29,7 +30,7 @@ impl<'a> Message<'a> {
         }
     }
 
-    // Its bytes.
+    /// Its bytes.
     pub fn bytes(&self, heap: Global) -> Result<Vec<u8>, AllocError>
         ensures { IfOk result (λ v. v.items ≡ bytes_of self.now) }
     {

@@ -4,14 +4,14 @@ ghost use Rattle.script.specs.Words.{Parses};
 
 use crate::words::{only_place, only_text, split_word, text_of};
 
-// The forms of the cipher.
+/// The forms of the cipher.
 #[derive(Clone, Copy)]
 pub enum CipherForm {
     Cube,
     Words,
 }
 
-// What the boxes made after it are made with.
+/// What the boxes made after it are made with.
 #[derive(Clone, Copy)]
 pub enum Setting<'a> {
     Key { file: &'a str },

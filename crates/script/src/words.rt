@@ -60,7 +60,7 @@ fn first_letter(text: &[u8]) -> Option<usize>
 pub(crate) fn split_number(text: &[u8]) -> Option<(u64, &[u8])>
     ensures { MatchOption result ((n : ℕ) → ¬ (Numeral 64 (first_word text.now) n))
         (λ found. Numeral 64 (first_word text.now) found.0
-            × (found.1.now ≡ after_word text.now)) }
+        × (found.1.now ≡ after_word text.now)) }
 {
     let (word, rest) = split_word(text);
     Some((number_in(word)?, rest))
@@ -69,7 +69,7 @@ pub(crate) fn split_number(text: &[u8]) -> Option<(u64, &[u8])>
 pub(crate) fn split_place(text: &[u8]) -> Option<(u32, &[u8])>
     ensures { MatchOption result ((n : ℕ) → ¬ (Numeral 32 (first_word text.now) n))
         (λ found. Numeral 32 (first_word text.now) found.0
-            × (found.1.now ≡ after_word text.now)) }
+        × (found.1.now ≡ after_word text.now)) }
 {
     let (word, rest) = split_word(text);
     Some((place_in(word)?, rest))
