@@ -1,5 +1,6 @@
 -- Each row of a call's table applies or does not, whatever was handed in and whatever the box is.
-use Rattle.std.proofs.Common.{◌≡◌, ℕ, ◌+◌, ◌-◌, List, length, take, drop, sym, refl, ap, ◌∙◌, subst, arith}
+use Rattle.std.proofs.Common.{◌≡◌, ℕ, ◌+◌, ◌-◌, List, length, take, drop, sym, refl, ap, ◌∙◌, subst}
+use Rattle.std.proofs.Common.{arith}
 use mathlib.Core.List.{List-discrete}
 use native.Mathlib.Decide.{ℕ_discrete, dec_le, dec_lt}
 use Rattle.std.proofs.lemmas.List.{take_at, drop_at}
@@ -11,7 +12,8 @@ use Rattle.records.specs.Records.{empty, length_in, tag_in, WellFormed}
 use Rattle.records.specs.Sheets.{right_tag}
 use Rattle.numbers.specs.Counting.{count}
 use Rattle.box_model.specs.States.{Made, State}
-use Rattle.box_model.specs.Calls.{not_out, draw_table, seal_table, slip_table, void_table, clear_table, read_table, unslip_table, number_table}
+use Rattle.box_model.specs.Calls.{not_out, draw_table, seal_table, slip_table, void_table}
+use Rattle.box_model.specs.Calls.{clear_table, read_table, unslip_table, number_table}
 use Rattle.box_model.proofs.Tables.{Decided, dec_not, dec_both, dec_true, dec_below}
 
 pub same_list : (xs ys : List ℕ) → Dec (xs ≡ ys)
@@ -72,7 +74,8 @@ module _ (made : Made) (s : State) where
     ),
   )
 
-  pub slip_decided : (number : ℕ) (message buffer : List ℕ) → Decided (slip_table made s number message buffer)
+  pub slip_decided : (number : ℕ) (message buffer : List ℕ)
+      → Decided (slip_table made s number message buffer)
   slip_decided number message buffer =
       (dec_not (ℕ_discrete (length buffer) _), (dec_lt _ (length message), (out_or_not number, tt)))
 

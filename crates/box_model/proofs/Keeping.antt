@@ -22,7 +22,8 @@ module _ (made : Made) where
   stood nothing_yet = tt
   stood (and_then {lines = ls} {t} {u} l log handed does) = All-push (Stood made) ls l (stood log) (t, u, handed, does)
 
-  last : {s u : State} {ks : List Line} → Log made s ks u → (ls : List Line) (l : Line) → ks ≡ ls ++ (l ∷ [])
+  last : {s u : State} {ks : List Line} → Log made s ks u → (ls : List Line) (l : Line)
+      → ks ≡ ls ++ (l ∷ [])
       → (t : State) × Log made s ls t × Handed l × Does made t l u
   last nothing_yet ls l e = absurd (omega (arith, ap length e, length_push ls l))
   last {s} (and_then {lines = ks} {t} {u} k log handed does) ls l e =
@@ -34,7 +35,8 @@ module _ (made : Made) (fair : Fair made) (s : State) (pos : 1 ≤ s.next) (none
   abbrev Full : List Effect → State → Type 0
   Full es t = Numbered s.next es t × AllHeld made es t
 
-  full_on : (es : List Effect) (t : State) (e : Effect) (u : State) → Turn made t e u → Full es t → Full (es ++ (e ∷ [])) u
+  full_on : (es : List Effect) (t : State) (e : Effect) (u : State) → Turn made t e u → Full es t
+      → Full (es ++ (e ∷ [])) u
   full_on es t e u x k = (numbered_on s.next pos made es t e u x k.0, held_more s.next made es t k.0 k.1 e u x)
 
   full : {ls : List Line} {t : State} → Log made s ls t → Full (all_effects ls) t

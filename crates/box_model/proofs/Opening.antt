@@ -1,5 +1,6 @@
 -- What lies where in the record of a sheet, and that it opens at its place.
-use Rattle.std.proofs.Common.{◌≡◌, ℕ, ◌+◌, ◌-◌, ◌<◌, ◌≤◌, ◌^◌, List, ◌++◌, length, drop, sym, refl, ap, ◌∙◌, subst, arith}
+use Rattle.std.proofs.Common.{◌≡◌, ℕ, ◌+◌, ◌-◌, ◌<◌, ◌≤◌, ◌^◌, List, ◌++◌, length, drop, sym, refl}
+use Rattle.std.proofs.Common.{ap, ◌∙◌, subst, arith}
 use Rattle.std.proofs.lemmas.List.{length-replicate, append_assoc}
 use Rattle.octets.specs.Octets.{zeros, big_endian, spelt, part}
 use Rattle.octets.proofs.Numbers.{length-big_endian, spelt-big_endian, spelt-zeros}
@@ -10,7 +11,8 @@ use Rattle.records.specs.Sheets.{sheet, nonce_of, associated, head_of, right_tag
 use Rattle.records.proofs.Layouts.{Layout, layout}
 use Rattle.box_model.specs.States.{Made, Fair}
 
-module _ (made : Made) (fair : Fair made) (n p : ℕ) (label message : List ℕ) (whole : length label ≡ 46) (small : length message ≤ 928) where
+module _ (made : Made) (fair : Fair made) (n p : ℕ) (label message : List ℕ)
+    (whole : length label ≡ 46) (small : length message ≤ 928) where
   abbrev nonce : List ℕ
   nonce = nonce_of made.sign n
 
@@ -33,13 +35,15 @@ module _ (made : Made) (fair : Fair made) (n p : ℕ) (label message : List ℕ)
   same_length : length text ≡ length message
   same_length = length-ctr made.forward made.key nonce message
 
-  laid : (xs : List ℕ) → length xs ≡ length message → Lies xs (nonce ++ (head ++ (xs ++ (filling ++ right))))
+  laid : (xs : List ℕ) → length xs ≡ length message
+      → Lies xs (nonce ++ (head ++ (xs ++ (filling ++ right))))
   laid xs e =
       layout made.sign (big_endian 8 n) label (big_endian 2 (length message)) xs filling right
       fair.sign_fits.0 (length-big_endian 8 n) whole (length-big_endian 2 (length message))
       (omega (arith, small)) (length-replicate {A = ℕ} (928 - length message) 0 ∙ ap (λ k. 928 - k) (sym e))
 
-  module _ (bytes : List ℕ) (is : bytes ≡ sheet made.forward made.key made.sign n p label message) where
+  module _ (bytes : List ℕ)
+      (is : bytes ≡ sheet made.forward made.key made.sign n p label message) where
     lies : Lies text bytes
     lies = subst (Lies text) (sym is) (laid text same_length)
 

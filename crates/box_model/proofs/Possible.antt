@@ -1,5 +1,6 @@
 -- Every call has an answer.
-use Rattle.std.proofs.Common.{◌≡◌, ℕ, ◌+◌, cond, eqb, List, [], ◌∷◌, ◌++◌, length, take, drop, Some, None, Ok, Err, Option, Result, refl}
+use Rattle.std.proofs.Common.{◌≡◌, ℕ, ◌+◌, cond, eqb, List, [], ◌∷◌, ◌++◌, length, take, drop, Some}
+use Rattle.std.proofs.Common.{None, Ok, Err, Option, Result, refl}
 use Rattle.std.proofs.lemmas.Bool.{eq-eqb, ne_eqb, cond-true, cond-false}
 use Rattle.faults.specs.Causes.{left}
 use Rattle.faults.specs.Tables.{Not, Clear}
@@ -10,10 +11,14 @@ use Rattle.records.specs.Records.{empty, number_in, length_in}
 use Rattle.records.specs.Sheets.{sheet, slip, opened}
 use Rattle.numbers.specs.Counting.{without}
 use Rattle.box_model.specs.States.{Made, State}
-use Rattle.box_model.specs.Calls.{Done, Draws, Seals, Slips, Voids, Clears, Reads, Unslips, TellsNumber, draw_table, seal_table, slip_table, void_table, clear_table, read_table, unslip_table, number_table}
+use Rattle.box_model.specs.Calls.{Done, Draws, Seals, Slips, Voids, Clears, Reads, Unslips}
+use Rattle.box_model.specs.Calls.{TellsNumber, draw_table, seal_table, slip_table, void_table}
+use Rattle.box_model.specs.Calls.{clear_table, read_table, unslip_table, number_table}
 use Rattle.box_model.specs.Answers.{AlwaysAnswerable}
 use Rattle.box_model.proofs.Tables.{outcome}
-use Rattle.box_model.proofs.Decisions.{same_list, holds_or_not, draw_decided, seal_decided, slip_decided, void_decided, clear_decided, read_decided, unslip_decided, number_decided}
+use Rattle.box_model.proofs.Decisions.{same_list, holds_or_not, draw_decided, seal_decided}
+use Rattle.box_model.proofs.Decisions.{slip_decided, void_decided, clear_decided, read_decided}
+use Rattle.box_model.proofs.Decisions.{unslip_decided, number_decided}
 
 -- a shelf after a put that shuts nothing
 put_at : ℕ → List ℕ → Meaning → Meaning
@@ -78,7 +83,8 @@ module _ (made : Made) (s : State) where
       (λ f. (Err f, s)) (λ f. (refl, refl)) (clear_table made s p) (clear_decided made s p)
       (λ c. ((Ok tt, record s { shelf = put_at p empty s.shelf }), (refl, placed_at p empty s.shelf, refl)))
 
-  read_can : (p : ℕ) (buffer : List ℕ) → (x : Result (ℕ × ℕ) BoxFault × List ℕ) × Reads made s p buffer x.0 x.1
+  read_can : (p : ℕ) (buffer : List ℕ) → (x : Result (ℕ × ℕ) BoxFault × List ℕ)
+      × Reads made s p buffer x.0 x.1
   read_can p buffer =
       let bytes : List ℕ = s.shelf.bytes p in
       outcome {X = Result (ℕ × ℕ) BoxFault × List ℕ} (λ x f. (x.0 ≡ Err f) × (x.1 ≡ left f buffer))
@@ -86,7 +92,8 @@ module _ (made : Made) (s : State) where
       (λ f. (Err f, left f buffer)) (λ f. (refl, refl)) (read_table made s p buffer) (read_decided made s p buffer)
       (λ c. ((Ok (number_in bytes, length_in bytes), opened made.forward made.key bytes), (refl, refl)))
 
-  unslip_can : (bytes buffer : List ℕ) → (x : Result ℕ BoxFault × List ℕ) × Unslips made s bytes buffer x.0 x.1
+  unslip_can : (bytes buffer : List ℕ) → (x : Result ℕ BoxFault × List ℕ)
+      × Unslips made s bytes buffer x.0 x.1
   unslip_can bytes buffer =
       outcome {X = Result ℕ BoxFault × List ℕ} (λ x f. (x.0 ≡ Err f) × (x.1 ≡ left f buffer))
       (λ x. (message : List ℕ) × BlockHolds made.back made.key (take 16 bytes) (drop 16 bytes) message

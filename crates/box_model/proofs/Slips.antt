@@ -1,5 +1,6 @@
 -- The bytes of a done slip open to its message.
-use Rattle.std.proofs.Common.{◌≡◌, ℕ, ◌≤◌, List, ◌++◌, length, take, drop, Ok, Err, Result, sym, refl, ap, ◌∙◌, arith, lit≤}
+use Rattle.std.proofs.Common.{◌≡◌, ℕ, ◌≤◌, List, ◌++◌, length, take, drop, Ok, Err, Result, sym}
+use Rattle.std.proofs.Common.{refl, ap, ◌∙◌, arith, lit≤}
 use Rattle.std.proofs.lemmas.List.{take_at, drop_at, length-append, append_cancel_left}
 use Rattle.faults.specs.Tables.{Clear}
 use Rattle.faults.specs.declared.BoxFault.{BoxFault}
@@ -30,7 +31,8 @@ module _ (made : Made) (fair : Fair made) where
       (length-append made.sign number ∙ omega (arith, fair.sign_fits.0, length-big_endian 8 n), append-bytes made.sign number fair.sign_fits.1 (big_endian_bytes 8 n))
 
   -- what Short takes of a slip
-  slip-taken : (n : ℕ) (message : List ℕ) → length message ≤ 15 → Octets message → Takes made.key 6 10 (nonce_of made.sign n ++ padded 16 message)
+  slip-taken : (n : ℕ) (message : List ℕ) → length message ≤ 15 → Octets message
+      → Takes made.key 6 10 (nonce_of made.sign n ++ padded 16 message)
   slip-taken n message small bytes = record {
     key_whole = fair.key_fits;
     separator = lit≤ tt;
@@ -43,7 +45,8 @@ module _ (made : Made) (fair : Fair made) where
   }
 
   pub slip-opens : (n : ℕ) (message buffer bytes room room' : List ℕ) (answer : Result ℕ BoxFault)
-      → Stood made (slips n message buffer (Ok tt) bytes) → Stood made (unslip bytes room answer room')
+      → Stood made (slips n message buffer (Ok tt) bytes)
+      → Stood made (unslip bytes room answer room')
       → length room ≡ 15 → (answer ≡ Ok (length message)) × (room' ≡ filled message)
   unfolding short
   slip-opens n message buffer bytes room room' answer a b fits =
@@ -83,9 +86,10 @@ module _ (made : Made) (fair : Fair made) where
         small,
         ap (made.back made.key 6 10) back
             ∙ sym (turned_back made.forward made.back fair.two_way made.key 6 10 (nonce ++ padded 16 message) block taken
-                (fair.gives_blocks made.key 6 10 _ taken) refl)
+            (fair.gives_blocks made.key 6 10 _ taken) refl)
             ∙ ap (λ xs. xs ++ padded 16 message) (sym front),
       )
 
-      opened : (m : List ℕ) × BlockHolds made.back made.key (take 16 bytes) (drop 16 bytes) m × (answer ≡ Ok (length m)) × (room' ≡ filled m)
+      opened : (m : List ℕ) × BlockHolds made.back made.key (take 16 bytes) (drop 16 bytes) m
+          × (answer ≡ Ok (length m)) × (room' ≡ filled m)
       opened = (b.3.1.1 (λ no'. no' (whole, fits))).1 (λ no'. no' (message, from))

@@ -1,5 +1,6 @@
 -- Plates by their marks.
-use Rattle.std.proofs.Common.{◌≡◌, ℕ, zero, suc, ◌<◌, ◌≤◌, true, ltb, List, [], ◌∷◌, length, get_or, Some, ap, ◌∙◌, arith, lit≤}
+use Rattle.std.proofs.Common.{◌≡◌, ℕ, zero, suc, ◌<◌, ◌≤◌, true, ltb, List, [], ◌∷◌, length, get_or}
+use Rattle.std.proofs.Common.{Some, ap, ◌∙◌, arith, lit≤}
 use Rattle.std.proofs.lemmas.Bool.{lt-ltb}
 use Rattle.faults.specs.Tables.{Not}
 use Rattle.octets.specs.Lists.{table}
@@ -9,7 +10,8 @@ use Rattle.plate.proofs.Marks.{last-here, last-before, used_more, used_less}
 use Rattle.settled.specs.Settled.{Marks}
 
 -- mark j of marks that are written out
-mark-at : (memory marks : List ℕ) → Marks memory marks → (j : ℕ) → get_or (table (length marks) (mark memory)) j 0 ≡ get_or marks j 0
+mark-at : (memory marks : List ℕ) → Marks memory marks → (j : ℕ)
+    → get_or (table (length marks) (mark memory)) j 0 ≡ get_or marks j 0
 mark-at memory marks h j = ap (λ t. get_or t j 0) h.1
 
 module _ (memory : List ℕ) (h : Marks memory (1 ∷ 2 ∷ 1 ∷ 0 ∷ [])) where
@@ -60,6 +62,6 @@ module _ (memory : List ℕ) (h : Marks memory (1 ∷ 2 ∷ 1 ∷ 0 ∷ [])) whe
       (record { some = lit≤ tt; few = lit≤ tt; marks = no_mark_above; order = no_gap }, more, more)
 
 module _ (memory : List ℕ) (places : ℕ) (h : Marks memory (1 ∷ 0 ∷ 2 ∷ [])) where
-  pub plate_gap : Not (Fit memory places)
+  pub no_fit : Not (Fit memory places)
   unfolding table
-  plate_gap fit = omega (arith, fit.order 1 2 (omega arith) (omega (arith, h.0)) (mark-at memory _ h 1), mark-at memory _ h 2)
+  no_fit fit = omega (arith, fit.order 1 2 (omega arith) (omega (arith, h.0)) (mark-at memory _ h 1), mark-at memory _ h 2)
