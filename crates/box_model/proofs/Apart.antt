@@ -25,8 +25,10 @@ apart_other named (m ∷ ns) n z =
     let one = count_one n m in
     let two = count_one m n in
     let more : count n (m ∷ []) + count n ns ≡ 0 = omega (arith, count-append n (m ∷ []) ns) in
-    let same : count m (named ++ (n ∷ [])) ≡ count m named = omega (arith, count-append m named (n ∷ [])) in
-    ap₂ (λ (k : ℕ) (xs : List ℕ). cond (eqb k 0) (m ∷ xs) xs) same (apart_other named ns n (omega arith))
+    let same : count m (named ++ (n ∷ [])) ≡ count m named =
+    omega (arith, count-append m named (n ∷ [])) in
+    ap₂ (λ (k : ℕ) (xs : List ℕ). cond (eqb k 0) (m ∷ xs) xs) same
+    (apart_other named ns n (omega arith))
 
 -- one more named, which stands in the list once and was not named
 pub apart_more : (named ns : List ℕ) (n : ℕ) → count n named ≡ 0 → count n ns ≤ 1
@@ -41,10 +43,13 @@ apart_more named (m ∷ ns) n z once = by (apart_more named ns n z) (count_one n
         → apart (named ++ (n ∷ [])) (m ∷ ns) ≡ without n (apart named (m ∷ ns))
     hit e k =
         let two = count_one m n in
-        let gone : eqb (count m (named ++ (n ∷ []))) 0 ≡ false = ne_eqb _ 0 (λ q. omega (arith, count-append m named (n ∷ []))) in
-        let here : eqb (count m named) 0 ≡ true = eq-eqb _ 0 (ap (λ x. count x named) (sym e) ∙ z) in
+        let gone : eqb (count m (named ++ (n ∷ []))) 0 ≡ false =
+        ne_eqb _ 0 (λ q. omega (arith, count-append m named (n ∷ []))) in
+        let here : eqb (count m named) 0 ≡ true =
+        eq-eqb _ 0 (ap (λ x. count x named) (sym e) ∙ z) in
         cond-false _ _ _ gone
-        ∙ (apart_other named ns n (omega (arith, joint)) ∙ sym (ap (without n) (cond-true _ _ _ here) ∙ cond-true (eqb n m) _ _ (eq-eqb n m e)))
+        ∙ (apart_other named ns n (omega (arith, joint))
+        ∙ sym (ap (without n) (cond-true _ _ _ here) ∙ cond-true (eqb n m) _ _ (eq-eqb n m e)))
 
     miss : (n ≡ m → ⊥) → (b : Bool) (xs ys : List ℕ) → xs ≡ without n ys
         → cond b (m ∷ xs) xs ≡ without n (cond b (m ∷ ys) ys)
@@ -57,6 +62,8 @@ apart_more named (m ∷ ns) n z once = by (apart_more named ns n z) (count_one n
     by ih (inl h) = hit h.0 h.1
     by ih (inr h) =
         let two = count_one m n in
-        let same : count m (named ++ (n ∷ [])) ≡ count m named = omega (arith, count-append m named (n ∷ [])) in
-        ap (λ (k : ℕ). cond (eqb k 0) (m ∷ apart (named ++ (n ∷ [])) ns) (apart (named ++ (n ∷ [])) ns)) same
+        let same : count m (named ++ (n ∷ [])) ≡ count m named =
+        omega (arith, count-append m named (n ∷ [])) in
+        let rest : List ℕ = apart (named ++ (n ∷ [])) ns in
+        ap (λ (k : ℕ). cond (eqb k 0) (m ∷ rest) rest) same
         ∙ miss h.0 (eqb (count m named) 0) _ _ (ih (omega (arith, joint)))

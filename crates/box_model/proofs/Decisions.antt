@@ -31,7 +31,7 @@ module _ (made : Made) (bytes : List ℕ) where
 
   pub holds_or_not : Dec ((message : List ℕ) × Holds message)
   holds_or_not =
-      elim (dec_below (λ k. Holds (front k)) (λ k. dec_both (dec_le (length (front k)) 15) (same_list block _)) 16) [
+      elim (dec_below (λ k. Holds (front k)) front_holds 16) [
         | yes h ↦ yes (front h.0, h.2)
         | no n ↦ no (λ h. n (length h.0, omega (arith, h.1.0), at_front h))
       ]
@@ -41,6 +41,9 @@ module _ (made : Made) (bytes : List ℕ) where
 
       front : ℕ → List ℕ
       front k = take k (drop (length (take 16 bytes)) block)
+
+      front_holds : (k : ℕ) → Dec (Holds (front k))
+      front_holds k = dec_both (dec_le (length (front k)) 15) (same_list block _)
 
       at_front : (h : (message : List ℕ) × Holds message) → Holds (front (length h.0))
       at_front h =
@@ -87,7 +90,8 @@ module _ (made : Made) (s : State) where
 
   pub read_decided : (place : ℕ) (buffer : List ℕ) → Decided (read_table made s place buffer)
   read_decided place buffer =
-      let bytes : List ℕ = s.shelf.bytes place in (
+      let bytes : List ℕ = s.shelf.bytes place in
+      let right : List ℕ = right_tag made.forward made.key place bytes in (
         dec_not (ℕ_discrete (length buffer) _),
         (
           dec_le s.shelf.count place,
@@ -95,7 +99,7 @@ module _ (made : Made) (s : State) where
             same_list bytes empty,
             (
               dec_not (well_formed_or_not bytes),
-              (dec_not (same_list (tag_in bytes) (right_tag made.forward made.key place bytes)), tt),
+              (dec_not (same_list (tag_in bytes) right), tt),
             ),
           ),
         ),

@@ -38,7 +38,8 @@ sound-start first = record {
 module _ (first : ℕ) (ended drawn : List ℕ) (next : ℕ) (out : List ℕ)
     (s : Sound first ended drawn next out) where
   range_out : (n : ℕ) → 0 < count n out → InRange n
-  range_out n h = ⊎_elim (λ r. r.0) (λ z. omega (arith, s.adds n, count-append n ended out)) (s.fresh n)
+  range_out n h =
+      ⊎_elim (λ r. r.0) (λ z. omega (arith, s.adds n, count-append n ended out)) (s.fresh n)
 
   end_once : (n : ℕ) → count n ended ≤ 1
   end_once n = omega (arith, s.once n, s.adds n, count-append n ended out)
@@ -47,13 +48,23 @@ module _ (first : ℕ) (ended drawn : List ℕ) (next : ℕ) (out : List ℕ)
       → Sound first ended (drawn ++ (next ∷ [])) (next + 1) (out ++ (next ∷ []))
   sound-draw pos low room =
       record {
-        once = λ n. let o = count_one n next in omega (arith, s.once n, s.fresh n, count-append n drawn (next ∷ []));
+        once = λ n.
+            let o = count_one n next in
+            omega (arith, s.once n, s.fresh n, count-append n drawn (next ∷ []));
         fresh = λ n. fresh n (count_one n next) (s.fresh n);
         adds = λ n.
-            omega (arith, s.adds n, count-append n drawn (next ∷ []), count-append n ended (out ++ (next ∷ [])), count-append n out (next ∷ []), count-append n ended out);
+            omega (
+              arith,
+              s.adds n,
+              count-append n drawn (next ∷ []),
+              count-append n ended (out ++ (next ∷ [])),
+              count-append n out (next ∷ []),
+              count-append n ended out,
+            );
         next_is = omega (arith, s.next_is, length_push drawn next);
         out_is = ap (λ ns. ns ++ (next ∷ [])) s.out_is
-            ∙ sym (apart_push ended drawn next (omega (arith, s.fresh next, s.adds next, count-append next ended out)));
+            ∙ sym (apart_push ended drawn next
+            (omega (arith, s.fresh next, s.adds next, count-append next ended out)));
         sixteen = omega (arith, length_push out next);
       }
     where
@@ -71,17 +82,26 @@ module _ (first : ℕ) (ended drawn : List ℕ) (next : ℕ) (out : List ℕ)
         once = s.once;
         fresh = s.fresh;
         adds = λ m.
-            omega (arith, s.adds m, count-append m ended out, count-append m (ended ++ (n ∷ [])) (without n out), count-append m ended (n ∷ []), count-without m n out h);
+            omega (
+              arith,
+              s.adds m,
+              count-append m ended out,
+              count-append m (ended ++ (n ∷ [])) (without n out),
+              count-append m ended (n ∷ []),
+              count-without m n out h,
+            );
         next_is = s.next_is;
         out_is = ap (without n) s.out_is
-            ∙ sym (apart_more ended drawn n (omega (arith, s.once n, s.adds n, count-append n ended out)) (s.once n));
+            ∙ sym (apart_more ended drawn n
+            (omega (arith, s.once n, s.adds n, count-append n ended out)) (s.once n));
         sixteen = omega (arith, s.sixteen, length-without n out);
       }
 
 sound-at : (first : ℕ) (E E' D D' : List ℕ) (next next' : ℕ) (out out' : List ℕ) → E' ≡ E → D' ≡ D
     → next' ≡ next → out' ≡ out
     → Sound first E D next out → Sound first E' D' next' out'
-sound-at first E E' D D' next next' out out' e d n o s = transport (λ i. Sound first (sym e i) (sym d i) (sym n i) (sym o i)) s
+sound-at first E E' D D' next next' out out' e d n o s =
+    transport (λ i. Sound first (sym e i) (sym d i) (sym n i) (sym o i)) s
 
 -- the same of effects
 abbrev pub Numbered : ℕ → List Effect → State → Type 0
@@ -109,25 +129,31 @@ module _ (first : ℕ) (es : List Effect) (s : State) (k : Numbered first es s) 
     begun : (n : ℕ) → drawn_by e ≡ n ∷ [] → ended_by e ≡ [] → 1 ≤ first → Begins n s t
         → Numbered first (es ++ (e ∷ [])) t
     begun n d none pos b =
-        sound-at first _ _ _ _ _ _ _ _ (same ended_by e none) (pushed drawn_by e (s.next ∷ []) (d ∙ ap (λ m. m ∷ []) b.is_next))
+        sound-at first _ _ _ _ _ _ _ _ (same ended_by e none)
+        (pushed drawn_by e (s.next ∷ []) (d ∙ ap (λ m. m ∷ []) b.is_next))
         b.next (b.out ∙ ap (λ m. s.out ++ (m ∷ [])) b.is_next)
         (sound-draw first _ _ _ _ k pos (omega (arith, b.low, b.is_next)) b.room)
 
     over : (n : ℕ) → drawn_by e ≡ [] → ended_by e ≡ n ∷ [] → Ends n s t
         → Numbered first (es ++ (e ∷ [])) t
     over n none d x =
-        sound-at first _ _ _ _ _ _ _ _ (pushed ended_by e (n ∷ []) d) (same drawn_by e none) x.next x.out
+        sound-at first _ _ _ _ _ _ _ _ (pushed ended_by e (n ∷ []) d) (same drawn_by e none)
+        x.next x.out
         (sound_end first _ _ _ _ k n x.was_out)
 
     untouched : drawn_by e ≡ [] → ended_by e ≡ [] → t.next ≡ s.next → t.out ≡ s.out
         → Numbered first (es ++ (e ∷ [])) t
-    untouched d n next out = sound-at first _ _ _ _ _ _ _ _ (same ended_by e n) (same drawn_by e d) next out k
+    untouched d n next out =
+        sound-at first _ _ _ _ _ _ _ _ (same ended_by e n) (same drawn_by e d) next out k
 
 pub numbered_on : (first : ℕ) → 1 ≤ first
     → (made : Made) (es : List Effect) (s : State) (e : Effect) (t : State)
     → Turn made s e t → Numbered first es s → Numbered first (es ++ (e ∷ [])) t
 numbered_on first pos made es s (drew n) t x k = begun first es s k (drew n) t n refl refl pos x.0
-numbered_on first pos made es s (sealed n p l m r) t x k = over first es s k (sealed n p l m r) t n refl refl x.0
-numbered_on first pos made es s (slipped n m r) t x k = over first es s k (slipped n m r) t n refl refl x.0
+numbered_on first pos made es s (sealed n p l m r) t x k =
+    over first es s k (sealed n p l m r) t n refl refl x.0
+numbered_on first pos made es s (slipped n m r) t x k =
+    over first es s k (slipped n m r) t n refl refl x.0
 numbered_on first pos made es s (voided n) t x k = over first es s k (voided n) t n refl refl x.0
-numbered_on first pos made es s (cleared p) t x k = untouched first es s k (cleared p) t refl refl x.0 x.1
+numbered_on first pos made es s (cleared p) t x k =
+    untouched first es s k (cleared p) t refl refl x.0 x.1

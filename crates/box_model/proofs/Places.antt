@@ -26,7 +26,8 @@ held_put : (made : Made) (p : ℕ) (o : Option Left) (q : ℕ) (w : Left) (bytes
     → Held made p (cond (eqb p q) (Some w) o) n
 held_put made p o q w bytes m n x is h =
     cond_both (eqb p q) (Some w) o (λ x. Held made p x n)
-    (λ b. subst (λ i. Held made i (Some w) n) (sym (eqb-true p q b)) (omega (arith, x.inside, x.put.count), subst (Is made q w) (sym x.put.here) is))
+    (λ b. subst (λ i. Held made i (Some w) n) (sym (eqb-true p q b))
+    (omega (arith, x.inside, x.put.count), subst (Is made q w) (sym x.put.here) is))
     (λ b. held_on made p o m n x.put.count (λ l. x.put.elsewhere p l (eqb-false p q b)) h)
 
 abbrev pub AllHeld : Made → List Effect → State → Type 0
@@ -41,11 +42,14 @@ module _ (first : ℕ) (made : Made) (es : List Effect) (s : State) (k : Numbere
       → Held made p (leaves p (latest p es) e) t.shelf
   held_one (drew n) t x p = same_shelf t p x.1
   held_one (sealed n q l m r) t x p =
-      held_put made p (latest p es) q (a_sheet n l m) (sheet made.forward made.key made.sign n q l m) s.shelf t.shelf
-      x.1 (refl, out-in_range first es s k n x.0.was_out, x.2, x.3) (h p)
+      held_put made p (latest p es) q (a_sheet n l m)
+      (sheet made.forward made.key made.sign n q l m) s.shelf t.shelf x.1
+      (refl, out-in_range first es s k n x.0.was_out, x.2, x.3) (h p)
   held_one (slipped n m r) t x p = same_shelf t p x.1
   held_one (voided n) t x p = same_shelf t p x.1
-  held_one (cleared q) t x p = held_put made p (latest p es) q nothing empty s.shelf t.shelf x.2 refl (h p)
+  held_one (cleared q) t x p =
+      held_put made p (latest p es) q nothing empty s.shelf t.shelf x.2 refl (h p)
 
   pub held_more : (e : Effect) (t : State) → Turn made s e t → AllHeld made (es ++ (e ∷ [])) t
-  held_more e t x p = subst (λ o. Held made p o t.shelf) (sym (fold_push (leaves p) None es e)) (held_one e t x p)
+  held_more e t x p =
+      subst (λ o. Held made p o t.shelf) (sym (fold_push (leaves p) None es e)) (held_one e t x p)

@@ -37,9 +37,13 @@ module _ (made : Made) (s : State) where
   draw_can : (x : Result ℕ BoxFault × State) × Draws made s x.0 x.1
   draw_can =
       outcome {X = Result ℕ BoxFault × State} (λ x f. (x.0 ≡ Err f) × (x.1 ≡ s))
-      (λ x. (x.0 ≡ Ok s.next) × (x.1 ≡ record s { next = s.next + 1; out = s.out ++ (s.next ∷ []) }))
+      (λ x. (x.0 ≡ Ok s.next)
+      × (x.1 ≡ record s { next = s.next + 1; out = s.out ++ (s.next ∷ []) }))
       (λ f. (Err f, s)) (λ f. (refl, refl)) (draw_table made s) (draw_decided made s)
-      (λ c. ((Ok s.next, record s { next = s.next + 1; out = s.out ++ (s.next ∷ []) }), (refl, refl)))
+      (λ c. (
+        (Ok s.next, record s { next = s.next + 1; out = s.out ++ (s.next ∷ []) }),
+        (refl, refl),
+      ))
 
   seal_can : (n p : ℕ) (label message buffer : List ℕ)
       → (x : Done × List ℕ × State) × Seals made s n p label message buffer x.0 x.1 x.2
@@ -48,7 +52,8 @@ module _ (made : Made) (s : State) where
       let bytes : List ℕ = sheet made.forward made.key made.sign n p label message in
       outcome {X = Done × List ℕ × State} (λ x f. (x.0 ≡ Err f) × (x.2 ≡ s) × (x.1 ≡ buffer))
       (λ x. (x.0 ≡ Ok tt) × (x.1 ≡ sheet made.forward made.key made.sign n p label message)
-      × Placed s.shelf p x.1 x.2.shelf × (x.2 ≡ record s { shelf = x.2.shelf; out = without n s.out }))
+      × Placed s.shelf p x.1 x.2.shelf
+      × (x.2 ≡ record s { shelf = x.2.shelf; out = without n s.out }))
       (λ f. (Err f, buffer, s)) (λ f. (refl, refl, refl))
       (seal_table made s n p label message buffer) (seal_decided made s n p label message buffer)
       (λ c. (
@@ -79,30 +84,42 @@ module _ (made : Made) (s : State) where
   clear_can : (p : ℕ) → (x : Done × State) × Clears made s p x.0 x.1
   clear_can p =
       outcome {X = Done × State} (λ x f. (x.0 ≡ Err f) × (x.1 ≡ s))
-      (λ x. (x.0 ≡ Ok tt) × Placed s.shelf p empty x.1.shelf × (x.1 ≡ record s { shelf = x.1.shelf }))
+      (λ x. (x.0 ≡ Ok tt) × Placed s.shelf p empty x.1.shelf
+      × (x.1 ≡ record s { shelf = x.1.shelf }))
       (λ f. (Err f, s)) (λ f. (refl, refl)) (clear_table made s p) (clear_decided made s p)
-      (λ c. ((Ok tt, record s { shelf = put_at p empty s.shelf }), (refl, placed_at p empty s.shelf, refl)))
+      (λ c. (
+        (Ok tt, record s { shelf = put_at p empty s.shelf }),
+        (refl, placed_at p empty s.shelf, refl),
+      ))
 
   read_can : (p : ℕ) (buffer : List ℕ) → (x : Result (ℕ × ℕ) BoxFault × List ℕ)
       × Reads made s p buffer x.0 x.1
   read_can p buffer =
       let bytes : List ℕ = s.shelf.bytes p in
       outcome {X = Result (ℕ × ℕ) BoxFault × List ℕ} (λ x f. (x.0 ≡ Err f) × (x.1 ≡ left f buffer))
-      (λ x. (x.0 ≡ Ok (number_in bytes, length_in bytes)) × (x.1 ≡ opened made.forward made.key bytes))
-      (λ f. (Err f, left f buffer)) (λ f. (refl, refl)) (read_table made s p buffer) (read_decided made s p buffer)
-      (λ c. ((Ok (number_in bytes, length_in bytes), opened made.forward made.key bytes), (refl, refl)))
+      (λ x. (x.0 ≡ Ok (number_in bytes, length_in bytes))
+      × (x.1 ≡ opened made.forward made.key bytes))
+      (λ f. (Err f, left f buffer)) (λ f. (refl, refl))
+      (read_table made s p buffer) (read_decided made s p buffer)
+      (λ c. (
+        (Ok (number_in bytes, length_in bytes), opened made.forward made.key bytes),
+        (refl, refl),
+      ))
 
   unslip_can : (bytes buffer : List ℕ) → (x : Result ℕ BoxFault × List ℕ)
       × Unslips made s bytes buffer x.0 x.1
   unslip_can bytes buffer =
       outcome {X = Result ℕ BoxFault × List ℕ} (λ x f. (x.0 ≡ Err f) × (x.1 ≡ left f buffer))
-      (λ x. (message : List ℕ) × BlockHolds made.back made.key (take 16 bytes) (drop 16 bytes) message
+      (λ x. (message : List ℕ)
+      × BlockHolds made.back made.key (take 16 bytes) (drop 16 bytes) message
       × (x.0 ≡ Ok (length message)) × (x.1 ≡ filled message))
       (λ f. (Err f, left f buffer)) (λ f. (refl, refl))
-      (unslip_table made s bytes buffer) (unslip_decided made s bytes buffer) (λ c. by c (holds_or_not made bytes))
+      (unslip_table made s bytes buffer) (unslip_decided made s bytes buffer)
+      (λ c. by c (holds_or_not made bytes))
     where
       by : Clear (unslip_table made s bytes buffer)
-          → Dec ((message : List ℕ) × BlockHolds made.back made.key (take 16 bytes) (drop 16 bytes) message)
+          → Dec ((message : List ℕ)
+          × BlockHolds made.back made.key (take 16 bytes) (drop 16 bytes) message)
           → (x : Result ℕ BoxFault × List ℕ) × ((message : List ℕ)
           × BlockHolds made.back made.key (take 16 bytes) (drop 16 bytes) message
           × (x.0 ≡ Ok (length message)) × (x.1 ≡ filled message))
@@ -123,8 +140,10 @@ module _ (made : Made) (s : State) where
 pub answerable : AlwaysAnswerable
 answerable made s = record {
   draws = let x = draw_can made s in (x.0.0, x.0.1, x.1);
-  seals = λ n p label message buffer. let x = seal_can made s n p label message buffer in (x.0.0, x.0.1, x.0.2, x.1);
-  slips = λ n message buffer. let x = slip_can made s n message buffer in (x.0.0, x.0.1, x.0.2, x.1);
+  seals = λ n p label message buffer.
+      let x = seal_can made s n p label message buffer in (x.0.0, x.0.1, x.0.2, x.1);
+  slips = λ n message buffer.
+      let x = slip_can made s n message buffer in (x.0.0, x.0.1, x.0.2, x.1);
   voids = λ n. let x = void_can made s n in (x.0.0, x.0.1, x.1);
   clears = λ p. let x = clear_can made s p in (x.0.0, x.0.1, x.1);
   reads = λ p buffer. let x = read_can made s p buffer in (x.0.0, x.0.1, x.1);

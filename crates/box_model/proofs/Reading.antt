@@ -17,7 +17,8 @@ use Rattle.box_model.proofs.Opening.{opened_lies}
 -- the bytes of a place where that was left
 abbrev pub Is : Made → ℕ → Left → List ℕ → Type 0
 Is made p (a_sheet n label message) bytes =
-    (bytes ≡ sheet made.forward made.key made.sign n p label message) × InRange n × (length label ≡ 46) × (length message ≤ 928)
+    (bytes ≡ sheet made.forward made.key made.sign n p label message)
+    × InRange n × (length label ≡ 46) × (length message ≤ 928)
 Is made p nothing bytes = bytes ≡ empty
 
 abbrev pub Held : Made → ℕ → Option Left → Meaning → Type 0
@@ -30,7 +31,10 @@ module _ (made : Made) (fair : Fair made) (s : State) (p : ℕ) (buffer after : 
       → Held made p (Some (a_sheet n label message)) s.shelf
       → Reads made s p buffer answer after → Gives p (Some (a_sheet n label message)) answer after
   sheet_given n label message held does = (
-    done.0 ∙ ap₂ (λ (x y : ℕ). Ok (x, y)) (number_ok made fair n p label message whole small bytes is low) (length_ok made fair n p label message whole small bytes is),
+    done.0
+        ∙ ap₂ (λ (x y : ℕ). Ok (x, y))
+        (number_ok made fair n p label message whole small bytes is low)
+        (length_ok made fair n p label message whole small bytes is),
     ap label_in done.1 ∙ lies.label_is,
     ap (part 64 (length message)) done.1 ∙ lies.text_is,
   )
@@ -58,7 +62,8 @@ module _ (made : Made) (fair : Fair made) (s : State) (p : ℕ) (buffer after : 
           (λ no'. no' (formed made fair n p label message whole small bytes is))).1
           (λ no'. no' (tagged made fair n p label message whole small bytes is))
 
-      lies : Lies made fair n p label message whole small message (opened made.forward made.key bytes)
+      lies : Lies made fair n p label message whole small message
+          (opened made.forward made.key bytes)
       lies = opened_lies made fair n p label message whole small bytes is
 
   pub given : (o : Option Left) → Held made p o s.shelf → Reads made s p buffer answer after

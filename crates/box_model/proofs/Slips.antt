@@ -27,8 +27,10 @@ Stood made l = (t : State) × (u : State) × Handed l × Does made t l u
 module _ (made : Made) (fair : Fair made) where
   nonce_fits : (n : ℕ) → Bytes 16 (nonce_of made.sign n)
   nonce_fits n =
-      let number : List ℕ = big_endian 8 n in
-      (length-append made.sign number ∙ omega (arith, fair.sign_fits.0, length-big_endian 8 n), append-bytes made.sign number fair.sign_fits.1 (big_endian_bytes 8 n))
+      let number : List ℕ = big_endian 8 n in (
+        length-append made.sign number ∙ omega (arith, fair.sign_fits.0, length-big_endian 8 n),
+        append-bytes made.sign number fair.sign_fits.1 (big_endian_bytes 8 n),
+      )
 
   -- what Short takes of a slip
   slip-taken : (n : ℕ) (message : List ℕ) → length message ≤ 15 → Octets message
@@ -39,8 +41,10 @@ module _ (made : Made) (fair : Fair made) where
     enough = lit≤ tt;
     not_too_many = lit≤ tt;
     block_whole = (
-      length-append (nonce_of made.sign n) (padded 16 message) ∙ omega (arith, (nonce_fits n).0, length-padded 16 message (omega arith)),
-      append-bytes (nonce_of made.sign n) (padded 16 message) (nonce_fits n).1 (padded-bytes 16 message bytes),
+      length-append (nonce_of made.sign n) (padded 16 message)
+          ∙ omega (arith, (nonce_fits n).0, length-padded 16 message (omega arith)),
+      append-bytes (nonce_of made.sign n) (padded 16 message) (nonce_fits n).1
+          (padded-bytes 16 message bytes),
     );
   }
 
@@ -50,14 +54,17 @@ module _ (made : Made) (fair : Fair made) where
       → length room ≡ 15 → (answer ≡ Ok (length message)) × (room' ≡ filled message)
   unfolding short
   slip-opens n message buffer bytes room room' answer a b fits =
-      let only : opened.0 ≡ message = padded_once opened.0 message (append_cancel_left (take 16 bytes) _ _ (sym opened.1.1 ∙ from.1)) in
+      let only : opened.0 ≡ message =
+      padded_once opened.0 message
+      (append_cancel_left (take 16 bytes) _ _ (sym opened.1.1 ∙ from.1)) in
       (opened.2 ∙ ap (λ m. Ok (length m)) only, opened.3 ∙ ap filled only)
     where
       nonce : List ℕ
       nonce = nonce_of made.sign n
 
       done : Clear (slip_table made a.0 n message buffer)
-          × ((◌≡◌ {A = Done} (Ok tt) (Ok tt)) × (bytes ≡ slip made.forward made.key made.sign n message)
+          × ((◌≡◌ {A = Done} (Ok tt) (Ok tt))
+          × (bytes ≡ slip made.forward made.key made.sign n message)
           × (a.1 ≡ record a.0 { out = without n a.0.out }))
       done =
           done_when (λ f. (◌≡◌ {A = Done} (Ok tt) (Err f)) × (a.1 ≡ a.0) × (bytes ≡ buffer)) _
@@ -79,13 +86,16 @@ module _ (made : Made) (fair : Fair made) where
       back = ap (drop 16) done.1.1 ∙ drop_at nonce block 16 (nonce_fits n).0
 
       whole : length bytes ≡ 48
-      whole = ap length done.1.1 ∙ length-append nonce block ∙ omega (arith, (nonce_fits n).0, (fair.gives_blocks made.key 6 10 _ taken).0)
+      whole =
+          ap length done.1.1 ∙ length-append nonce block
+          ∙ omega (arith, (nonce_fits n).0, (fair.gives_blocks made.key 6 10 _ taken).0)
 
       from : BlockHolds made.back made.key (take 16 bytes) (drop 16 bytes) message
       from = (
         small,
         ap (made.back made.key 6 10) back
-            ∙ sym (turned_back made.forward made.back fair.two_way made.key 6 10 (nonce ++ padded 16 message) block taken
+            ∙ sym (turned_back made.forward made.back fair.two_way made.key 6 10
+            (nonce ++ padded 16 message) block taken
             (fair.gives_blocks made.key 6 10 _ taken) refl)
             ∙ ap (λ xs. xs ++ padded 16 message) (sym front),
       )

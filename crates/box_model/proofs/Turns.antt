@@ -93,7 +93,10 @@ module _ (made : Made) (s t : State) where
           next = ap (λ u. u.next) k.1.3;
           out = ap (λ u. u.out) k.1.3;
         },
-        record { inside = omega (arith, k.0.1.1.0); put = subst (λ x. Placed s.shelf p x t.shelf) k.1.1 k.1.2 },
+        record {
+          inside = omega (arith, k.0.1.1.0);
+          put = subst (λ x. Placed s.shelf p x t.shelf) k.1.1 k.1.2;
+        },
         stable_eq (length l) 46 (λ x. k.0.0 (λ y. x y.0)),
         omega (arith, k.0.1.0),
       )
@@ -142,11 +145,13 @@ module _ (made : Made) where
   each s t (seal n p l m b (Ok x) r) d = single (seal_turn made s t n p l m b x r d)
   each s t (seal n p l m b (Err e) r) d =
       still made s t (stays (λ f. (◌≡◌ {A = Done} (Err e) (Err f)) × (t ≡ s) × (r ≡ b)) _ s t
-      (seal_table made s n p l m b) (seal_decided made s n p l m b) (λ f r. r.1) (λ k. never_both tt e (sym k.0)) d)
+      (seal_table made s n p l m b) (seal_decided made s n p l m b) (λ f r. r.1)
+      (λ k. never_both tt e (sym k.0)) d)
   each s t (slips n m b (Ok x) r) d = single (slip_turn made s t n m b x r d)
   each s t (slips n m b (Err e) r) d =
       still made s t (stays (λ f. (◌≡◌ {A = Done} (Err e) (Err f)) × (t ≡ s) × (r ≡ b)) _ s t
-      (slip_table made s n m b) (slip_decided made s n m b) (λ f r. r.1) (λ k. never_both tt e (sym k.0)) d)
+      (slip_table made s n m b) (slip_decided made s n m b) (λ f r. r.1)
+      (λ k. never_both tt e (sym k.0)) d)
   each s t (void n (Ok x)) d = single (void_turn made s t n x d)
   each s t (void n (Err e)) d =
       still made s t (stays (λ f. (◌≡◌ {A = Done} (Err e) (Err f)) × (t ≡ s)) _ s t
@@ -154,7 +159,8 @@ module _ (made : Made) where
   each s t (clear p (Ok x)) d = single (clear_turn made s t p x d)
   each s t (clear p (Err e)) d =
       still made s t (stays (λ f. (◌≡◌ {A = Done} (Err e) (Err f)) × (t ≡ s)) _ s t
-      (clear_table made s p) (clear_decided made s p) (λ f r. r.1) (λ k. never_both tt e (sym k.0)) d)
+      (clear_table made s p) (clear_decided made s p) (λ f r. r.1)
+      (λ k. never_both tt e (sym k.0)) d)
   each s t (read p b a r) d = still made s t d.0
   each s t (unslip x b a r) d = still made s t d.0
 
@@ -166,16 +172,19 @@ module _ (made : Made) where
   runs : {s t : State} {lines : List Line} → Log made s lines t → Run made s (all_effects lines) t
   runs nothing_yet = stop
   runs {s} (and_then {lines} {t} {u} l log handed does) =
-      subst (λ es. Run made s es u) (flat_map_more effects [] lines l) (after_run (runs log) (each t u l does))
+      subst (λ es. Run made s es u) (flat_map_more effects [] lines l)
+      (after_run (runs log) (each t u l does))
 
   -- what every turn keeps, a log keeps
   module _ (Keeps : List Effect → State → Type 0)
-      (step : (es : List Effect) (s : State) (e : Effect) (t : State) → Turn made s e t → Keeps es s → Keeps (es ++ (e ∷ [])) t) where
+      (step : (es : List Effect) (s : State) (e : Effect) (t : State)
+      → Turn made s e t → Keeps es s → Keeps (es ++ (e ∷ [])) t) where
     carried : {s t : State} {fs : List Effect} → Run made s fs t → (es : List Effect) → Keeps es s
         → Keeps (es ++ fs) t
     carried {s} stop es k = subst (λ x. Keeps x s) (sym (append-nil es)) k
     carried {s} {t} (turn {v} {e} {es = fs} x more) es k =
-        subst (λ x. Keeps x t) (append_assoc es (e ∷ []) fs) (carried more (es ++ (e ∷ [])) (step es s e v x k))
+        subst (λ x. Keeps x t) (append_assoc es (e ∷ []) fs)
+        (carried more (es ++ (e ∷ [])) (step es s e v x k))
 
     pub kept_by_log : {s t : State} {lines : List Line} → Log made s lines t → Keeps [] s
         → Keeps (all_effects lines) t

@@ -20,7 +20,8 @@ xor-zeros : (a : List ℕ) (n : ℕ) → length a ≡ n → xor a (zeros n) ≡ 
 unfolding xor
 xor-zeros [] n h = refl
 xor-zeros (x ∷ a) zero h = absurd (omega arith)
-xor-zeros (x ∷ a) (suc n) h = ap (λ t. t ∷ xor a (zeros n)) (xor_zero_r x) ∙ ap (λ t. x ∷ t) (xor-zeros a n (omega arith))
+xor-zeros (x ∷ a) (suc n) h =
+    ap (λ t. t ∷ xor a (zeros n)) (xor_zero_r x) ∙ ap (λ t. x ∷ t) (xor-zeros a n (omega arith))
 
 module _ (nonce : List ℕ) where
   pub counter_16 : length nonce ≡ 16
