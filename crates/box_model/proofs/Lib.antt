@@ -1,8 +1,11 @@
-pub mod Fair
-pub mod Counts
-pub mod Numbers
 pub mod Tables
-pub mod Layouts
-pub mod Moves
-pub mod Keeping
+pub mod Decisions
 pub mod Possible
+pub mod Turns
+pub mod Apart
+pub mod Numbers
+pub mod Opening
+pub mod Reading
+pub mod Places
+pub mod Slips
+pub mod Keeping

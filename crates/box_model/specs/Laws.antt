@@ -7,7 +7,7 @@ use Rattle.octets.specs.Octets.{zeros, part}
 use Rattle.modes.specs.Short.{filled}
 use Rattle.records.specs.Records.{label_in}
 use Rattle.numbers.specs.Counting.{count}
-use Rattle.box_model.specs.States.{Made, State}
+use Rattle.box_model.specs.States.{Made, Fair, State}
 use Rattle.box_model.specs.Logs.{Line, Handed, Does, Log, slips, read, unslip}
 use Rattle.box_model.specs.Effects.{Left, a_sheet, nothing, all_effects, drawn, ended, latest}
 
@@ -52,3 +52,7 @@ pub record Kept (made : Made) (s : State) : Type 0 where
   pub unslips : (before between : List Line) (t : State) (n : ℕ) (message buffer bytes room room' : List ℕ) (answer : Result ℕ BoxFault)
       → Log made s (before ++ (slips n message buffer (Ok tt) bytes ∷ (between ++ (unslip bytes room answer room' ∷ [])))) t
       → length room ≡ 15 → (answer ≡ Ok (length message)) × (room' ≡ filled message)
+
+-- so does every log of a box whose numbers start at 1 or later
+abbrev pub AlwaysKept : Type 0
+AlwaysKept = (made : Made) → Fair made → (s : State) → 1 ≤ s.next → s.out ≡ [] → Kept made s

@@ -1,19 +1,23 @@
--- Why a call is refused: for each cause its number, its layer, what it leaves in a record buffer and its words; and what
--- becomes of a fault on its way up to the box.
-use Rattle.std.specs.Prelude.{ℕ, Bool, true, false, cond, List, length, replicate, Option, Some, None, codes}
+-- Why a call is refused: for each cause its number, its layer, what it leaves in a record buffer
+-- and its words; and what becomes of a fault on its way up to the box.
+use Rattle.std.specs.Prelude.{ℕ, Bool, true, false, cond, List, length, replicate, Option, Some}
+use Rattle.std.specs.Prelude.{None, codes}
 use Rattle.faults.specs.declared.ModeCause.{ModeCause}
-use Rattle.faults.specs.declared.ModeCause.TheVariants.{Length as ModeLength, Limit as ModeLimit, Parameter, Tag, Padding}
+use Rattle.faults.specs.declared.ModeCause.TheVariants.{Length as ModeLength, Limit as ModeLimit}
+use Rattle.faults.specs.declared.ModeCause.TheVariants.{Parameter, Tag, Padding}
 use Rattle.faults.specs.declared.ShelfCause.{ShelfCause}
-use Rattle.faults.specs.declared.ShelfCause.TheVariants.{Length as ShelfLength, Outside, Shut, Unfit}
+use Rattle.faults.specs.declared.ShelfCause.TheVariants.{Length as ShelfLength, Outside, Shut}
+use Rattle.faults.specs.declared.ShelfCause.TheVariants.{Unfit}
 use Rattle.faults.specs.declared.BoxCause.{BoxCause}
-use Rattle.faults.specs.declared.BoxCause.TheVariants.{Mode, Shelf, Length, Limit, NotOut, UsedUp, SixteenOut, Empty, Filling}
+use Rattle.faults.specs.declared.BoxCause.TheVariants.{Mode, Shelf, Length, Limit, NotOut, UsedUp}
+use Rattle.faults.specs.declared.BoxCause.TheVariants.{SixteenOut, Empty, Filling}
 use Rattle.faults.specs.declared.ModeFault.{ModeFault}
 use Rattle.faults.specs.declared.ShelfFault.{ShelfFault}
 use Rattle.faults.specs.declared.BoxFault.{BoxFault}
 
--- what is fixed for a cause: its number; its layer, which is 1 for the modes with the cipher below them, 2 for the shelf and
--- 3 for the box; whether the refusal makes a record buffer zero, as an opening that found nothing, or not what it should; and
--- its words
+-- what is fixed for a cause: its number; its layer, which is 1 for the modes with the cipher
+-- below them, 2 for the shelf and 3 for the box; whether the refusal makes a record buffer zero,
+-- as an opening that found nothing, or not what it should; and its words
 pub record Entry : Type 0 where
   pub number : ℕ
   pub layer : ℕ
@@ -27,7 +31,12 @@ entry (Mode ModeLength) =
 entry (Mode ModeLimit) =
     record { number = 2; layer = 1; wipes = false; words = codes "over its limit" }
 entry (Mode Parameter) =
-    record { number = 3; layer = 1; wipes = false; words = codes "separator or count of super-rounds out of range" }
+    record {
+      number = 3;
+      layer = 1;
+      wipes = false;
+      words = codes "separator or count of super-rounds out of range";
+    }
 entry (Mode Tag) =
     record { number = 11; layer = 1; wipes = true; words = codes "the tag differs" }
 entry (Mode Padding) =
@@ -45,7 +54,12 @@ entry Length =
 entry Limit =
     record { number = 2; layer = 3; wipes = false; words = codes "over its limit" }
 entry NotOut =
-    record { number = 6; layer = 3; wipes = false; words = codes "the number is not out in this box" }
+    record {
+      number = 6;
+      layer = 3;
+      wipes = false;
+      words = codes "the number is not out in this box";
+    }
 entry UsedUp =
     record { number = 7; layer = 3; wipes = false; words = codes "the numbers are used up" }
 entry SixteenOut =
@@ -53,7 +67,12 @@ entry SixteenOut =
 entry Empty =
     record { number = 9; layer = 3; wipes = true; words = codes "the place is empty" }
 entry Filling =
-    record { number = 10; layer = 3; wipes = true; words = codes "length above 928, or filling not zero" }
+    record {
+      number = 10;
+      layer = 3;
+      wipes = true;
+      words = codes "length above 928, or filling not zero";
+    }
 
 -- a fault of each layer, by its cause and by the place that it names
 abbrev pub mode_fault : ModeCause → ModeFault

@@ -14,4 +14,5 @@ abbrev pub printed : BoxFault → List ℕ
 printed f =
     let e : Entry = entry f.cause in
     codes "refused with "
-    ++ (decimal e.number ++ (codes ", layer " ++ (decimal e.layer ++ (printed_place f.place ++ (codes ": " ++ e.words)))))
+    ++ (decimal e.number ++ (codes ", layer " ++ (decimal e.layer
+    ++ (printed_place f.place ++ (codes ": " ++ e.words)))))

@@ -1,7 +1,8 @@
 #![tactic(auto)]
 
 ghost use Rattle.std.specs.Prelude.{◌≡◌, None, Some};
-ghost use Rattle.faults.specs.Causes.{entry, mode_fault, shelf_fault, box_fault, from_mode, from_shelf, placed};
+ghost use Rattle.faults.specs.Causes.{entry, mode_fault, shelf_fault, box_fault, from_mode};
+ghost use Rattle.faults.specs.Causes.{from_shelf, placed};
 ghost use Rattle.faults.specs.Words.{printed};
 ghost use Rattle.faults.specs.declared.BoxCause.TheVariants.{Mode, Shelf};
 

@@ -12,7 +12,7 @@ use Rattle.modes.specs.Cascade.{ctr, tag, CascadeOpens}
 use Rattle.modes.proofs.Streams.{ctr_twice}
 use Rattle.modes.proofs.Blocks.{drop-bytes, tag-bytes, ctr-bytes}
 use Rattle.modes.proofs.Exactly.{stable_same}
-use Rattle.locked.specs.Locked.{magic, locked, Holds, HoldsOnly, Unlocks}
+use Rattle.locked.specs.Locked.{magic, locked, FileHolds, FileHoldsOnly, Unlocks}
 use Rattle.locked.proofs.Parts.{in_parts, part-magic, part-nonce, part_rest}
 
 magic-bytes : Octets magic
@@ -33,7 +33,7 @@ module _ (f : BlockFunction) (key file : List ℕ) where
   text_of = drop 56 file
 
   -- parts that open
-  pub holds : (n : ℕ) (out : List ℕ) → length file ≡ 56 + n → ((i : ℕ) → at out i < 256) → take 4 file ≡ magic → sign_of ≡ tag f key nonce_of magic text_of → out ≡ ctr f key nonce_of text_of → Holds f key file out
+  pub holds : (n : ℕ) (out : List ℕ) → length file ≡ 56 + n → ((i : ℕ) → at out i < 256) → take 4 file ≡ magic → sign_of ≡ tag f key nonce_of magic text_of → out ≡ ctr f key nonce_of text_of → FileHolds f key file out
   unfolding locked
   holds n out l small m s e = record {
     nonce = nonce_of;
@@ -45,7 +45,7 @@ module _ (f : BlockFunction) (key file : List ℕ) where
   }
 
   -- and what opens where a message is held
-  module _ (gives : GivesBlocks f) (kb : Bytes 32 key) (fb : Octets file) (message : List ℕ) (h : Holds f key file message) where
+  module _ (gives : GivesBlocks f) (kb : Bytes 32 key) (fb : Octets file) (message : List ℕ) (h : FileHolds f key file message) where
     text : List ℕ
     text = ctr f key h.nonce message
 
@@ -92,7 +92,7 @@ module _ (f : BlockFunction) (gives : GivesBlocks f) (key file out : List ℕ) (
   pub this_word : take 4 file ≡ magic → CascadeOpens f key (nonce_of f key file) magic (text_of f key file) (sign_of f key file) out answer out' → Unlocks f key file out answer out'
   this_word word opens =
       let rest = (opens.1 (λ k. k (kl, simp length-drop (omega arith), simp (length-take, length-drop) (omega arith)))).1 (λ k. k (simp (length-take, length-drop) (omega arith), lit≤ tt, simp length-drop (omega arith))) in
-      let held : sign_of f key file ≡ tag f key (nonce_of f key file) magic (text_of f key file) → (answer ≡ Ok tt) × HoldsOnly f key file out' =
+      let held : sign_of f key file ≡ tag f key (nonce_of f key file) magic (text_of f key file) → (answer ≡ Ok tt) × FileHoldsOnly f key file out' =
       λ e. let d = rest.1 (λ k. k e) in (d.0, (holds f key file (length out) out' fl ob word e d.1, λ other h. held-message f key file gives (kl, kb) fb other h ∙ sym d.1)) in (
         λ h. absurd (h (kl, fl)),
         λ n. (

@@ -7,7 +7,7 @@ use Rattle.octets.specs.Octets.{part, written, big_endian}
 use Rattle.octets.proofs.Writes.{length-written, drop-written, part-written, part_below, part_above, get_or-written, get_or-apart, written-before}
 use Rattle.octets.proofs.Numbers.{length-big_endian}
 use Rattle.shelf.specs.Meaning.{Lawful, Puts, put_table}
-use Rattle.plate.specs.Plates.{plate_cells, cells, mark, cell_bytes, Fit, used, last_cell, LastCell, held, plate, PlateStores}
+use Rattle.plate.specs.Plates.{plate_cells, cells, mark, cell_bytes, NoMarkAbove, Fit, fit_table, used, last_cell, LastCell, held, plate, PlateStores}
 use Rattle.plate.proofs.Marks.{Front, last_law, last_is, last_same, front_used, front_one, first-unused}
 use Rattle.shelf.proofs.Tables.{put_allowed, put_done}
 
@@ -22,6 +22,41 @@ module _ (memory : List ℕ) where
     inside = λ p o. ltb-true p places (and_parts (ltb p places) (ltb (used memory (cells memory)) (cells memory)) o).0;
     whole = λ p h. held-long p (last_cell memory p (cells memory)) (last_law memory p (cells memory));
   }
+
+-- what the check lets through is fit
+pub fit_from_clear : (memory : List ℕ) (places : ℕ) → Clear (fit_table memory places) → Fit memory places
+fit_from_clear memory places c = record {
+  some = elim (cases_lt 0 places) [ inl h ↦ omega (arith, h) | inr h ↦ absurd (c.0 (λ f. omega (arith, h, f.some))) ];
+  few = elim (cases_lt 4096 places) [ inl h ↦ absurd (c.0 (λ f. omega (arith, h, f.few))) | inr h ↦ omega (arith, h) ];
+  marks = λ j l. elim (cases_lt places (mark memory j)) [
+    | inl h ↦ absurd (c.0 (λ f. omega (arith, h, f.marks j l)))
+    | inr h ↦ omega (arith, h)
+  ];
+  order = λ i j l m z. elim (cases_eq (mark memory j) 0) [ inl e ↦ e | inr n ↦ absurd (c.0 (λ f. n (f.order i j l m z))) ];
+}
+
+-- what a plate knows of its memory: it has the places of a fit one, or none
+pub record Known (memory : List ℕ) (places : ℕ) : Type 0 where
+  pub few : places ≤ 4096
+  pub lawful : Lawful (plate memory places)
+  pub marks : 0 < places → NoMarkAbove memory places
+  pub order : (i j : ℕ) → (0 < places) × (i < j) × (j < cells memory) × (mark memory i ≡ 0) → mark memory j ≡ 0
+
+pub known_fit : (memory : List ℕ) (places : ℕ) → Fit memory places → Known memory places
+known_fit memory places f = record {
+  few = f.few;
+  lawful = plate_lawful memory places f.few;
+  marks = λ h. f.marks;
+  order = λ i j h. f.order i j h.1 h.2 h.3;
+}
+
+pub known_none : (memory : List ℕ) → Known memory 0
+known_none memory = record {
+  few = omega arith;
+  lawful = plate_lawful memory 0 (omega arith);
+  marks = λ h. absurd (omega (arith, h));
+  order = λ i j h. absurd (omega (arith, h.0));
+}
 
 -- a put that no row refuses finds an unused cell
 pub plate_room : (memory bytes : List ℕ) (places p : ℕ) → Clear (put_table (plate memory places) p (length bytes)) → used memory (cells memory) < cells memory

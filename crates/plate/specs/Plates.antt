@@ -1,5 +1,8 @@
--- A plate: cells of 1,026 bytes, a mark and a record, each written once, one after another. What is left of the memory is spare.
-use Rattle.std.specs.Prelude.{◌≡◌, ℕ, zero, suc, ◌+◌, ◌*◌, ◌/◌, ◌<◌, ◌≤◌, min, cond, ◌&&◌, List, [], ◌∷◌, ◌++◌, length, drop, Some, None, Option, ◌==◌, nat_lt, slice_index}
+-- A plate: cells of 1,026 bytes, a mark and a record, each written once, one after another. What
+-- is left of the memory is spare.
+use Rattle.std.specs.Prelude.{◌≡◌, ℕ, zero, suc, ◌+◌, ◌*◌, ◌/◌, ◌<◌, ◌≤◌, min, cond, ◌&&◌, List}
+use Rattle.std.specs.Prelude.{[], ◌∷◌, ◌++◌, length, drop, Some, None, Option, ◌==◌, nat_lt}
+use Rattle.std.specs.Prelude.{slice_index}
 use Rattle.faults.specs.Causes.{shelf_fault}
 use Rattle.faults.specs.Tables.{Table, Not}
 use Rattle.faults.specs.declared.ShelfCause.TheVariants.{Unfit}
@@ -15,7 +18,8 @@ module _ (memory : List ℕ) where
   abbrev pub cells : ℕ
   cells = plate_cells (length memory)
 
-  -- the mark of cell j, two bytes in big-endian order: the place of its record plus 1, or 0 where the cell is unused
+  -- the mark of cell j, two bytes in big-endian order: the place of its record plus 1, or 0 where
+  -- the cell is unused
   abbrev pub mark : (j : ℕ) → ℕ
   mark j = 256 * slice_index memory (1026 * j) + slice_index memory (1026 * j + 1)
 
@@ -63,7 +67,8 @@ module _ (memory : List ℕ) where
   -- the same in other words: that cell has the mark and no later one has; or no cell has it
   abbrev pub LastCell : (p n : ℕ) → Option ℕ → Type 0
   LastCell p n None = (i : ℕ) → i < n → Not (mark i ≡ p + 1)
-  LastCell p n (Some j) = (j < n) × (mark j ≡ p + 1) × ((i : ℕ) → j < i → i < n → Not (mark i ≡ p + 1))
+  LastCell p n (Some j) =
+      (j < n) × (mark j ≡ p + 1) × ((i : ℕ) → j < i → i < n → Not (mark i ≡ p + 1))
 
   -- a place holds the record of its last cell, or zeros
   abbrev pub held : Option ℕ → List ℕ
@@ -78,7 +83,8 @@ module _ (memory : List ℕ) where
     bytes = λ p. held (last_cell p cells);
   }
 
-  -- a plate's memory after a done put: mark and record are written into the first unused cell, and the spare bytes are as they were
+  -- a plate's memory after a done put: mark and record are written into the first unused cell,
+  -- and the spare bytes are as they were
   pub record PlateStores (p : ℕ) (bytes memory' : List ℕ) : Type 0 where
     pub cell : ℕ
     pub first : FirstUnused cell

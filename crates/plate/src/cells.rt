@@ -1,5 +1,6 @@
 ghost use Rattle.std.specs.Prelude.{◌≡◌, ℕ, ◌<◌, ◌≤◌, MatchBool};
-ghost use Rattle.plate.specs.Plates.{plate_cells, cells, mark as mark_of, NoMarkAbove, used, last_cell};
+ghost use Rattle.plate.specs.Plates.{plate_cells, cells, mark as mark_of, NoMarkAbove, used};
+ghost use Rattle.plate.specs.Plates.{last_cell};
 ghost use Rattle.plate.specs.Neighbours.{GapAfter, NoGapAfterAny};
 
 // How many cells a memory of this size has.
@@ -9,8 +10,8 @@ pub(crate) fn cells_in(size: usize) -> usize
     (size / 1026).min(8192)
 }
 
-// The mark of a cell, as it stands in the memory: the place of its record plus 1, or 0 where the cell is unused. These functions
-// take the memory itself: a struct of this one slice would put a name more into each clause, and no fact.
+// The mark of a cell, as it stands in the memory: the place of its record plus 1, or 0 where the
+// cell is unused.
 fn mark(memory: &[u8], j: usize) -> u32
     requires { j < cells memory.now }
     ensures { result ≡ mark_of memory.now j }
@@ -43,7 +44,7 @@ pub(crate) fn has_gap(memory: &[u8]) -> bool
 }
 
 // The last of the first n cells that has the mark of a place. The search calls itself on the cells
-// before, and is no `rfind`.
+// before.
 pub(crate) fn last_cell_of(memory: &[u8], place: u32, n: usize) -> Option<usize>
     requires { (n ≤ cells memory.now) × (place < 4096) }
     ensures { result ≡ last_cell memory.now place n }

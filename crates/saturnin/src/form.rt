@@ -30,16 +30,16 @@ pub trait Form: Copy + BitXor<Output = Self> {
     fn columns_back(self) -> Self
         ensures { cube result ≡ MC⁻¹ (cube self) };
 
-    fn slices(self) -> Self
+    fn shift_slices(self) -> Self
         ensures { cube result ≡ SR_slice (cube self) };
 
-    fn slices_back(self) -> Self
+    fn shift_slices_back(self) -> Self
         ensures { cube result ≡ SR_slice⁻¹ (cube self) };
 
-    fn sheets(self) -> Self
+    fn shift_sheets(self) -> Self
         ensures { cube result ≡ SR_sheet (cube self) };
 
-    fn sheets_back(self) -> Self
+    fn shift_sheets_back(self) -> Self
         ensures { cube result ≡ SR_sheet⁻¹ (cube self) };
 
     fn rotated(self) -> Self

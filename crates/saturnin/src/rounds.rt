@@ -6,7 +6,7 @@ ghost use Rattle.saturnin.specs.TwoRounds.{super_round as super_round_of, super_
 
 use crate::form::Form;
 use crate::schedule::{Constants, RoundConstants};
-use crate::shifts::{Sheets, Shift, Slices};
+use crate::shifts::{Shift, ShiftSheets, ShiftSlices};
 
 // Forward and back are the same walk by other steps, whose contracts name other definitions: one function over both would be no
 // plainer. Constants, key and block are what one call is handed: a struct of them would be made for that call and taken apart
@@ -37,11 +37,11 @@ fn rounds<F: Form>(constants: Constants, key: F, block: F) -> F
     let (pairs, rest) = constants.rounds.as_chunks::<2>();
     let mut s = block ^ key;
     for [slice, sheet] in pairs {
-        s = super_round::<Slices, F>(s, turned_key, *slice);
-        s = super_round::<Sheets, F>(s, key, *sheet);
+        s = super_round::<ShiftSlices, F>(s, turned_key, *slice);
+        s = super_round::<ShiftSheets, F>(s, key, *sheet);
     }
     if let Some(last) = rest.first() {
-        s = super_round::<Slices, F>(s, turned_key, *last);
+        s = super_round::<ShiftSlices, F>(s, turned_key, *last);
     }
     s
 }
@@ -52,12 +52,12 @@ fn rounds_back<F: Form>(constants: Constants, key: F, block: F) -> F
     let turned_key = key.rotated();
     let (pairs, rest) = constants.rounds.as_chunks::<2>();
     let mut s = match rest.first() {
-        Some(last) => super_round_back::<Slices, F>(block, turned_key, *last),
+        Some(last) => super_round_back::<ShiftSlices, F>(block, turned_key, *last),
         None => block,
     };
     for [slice, sheet] in pairs.iter().rev() {
-        s = super_round_back::<Sheets, F>(s, key, *sheet);
-        s = super_round_back::<Slices, F>(s, turned_key, *slice);
+        s = super_round_back::<ShiftSheets, F>(s, key, *sheet);
+        s = super_round_back::<ShiftSlices, F>(s, turned_key, *slice);
     }
     s ^ key
 }

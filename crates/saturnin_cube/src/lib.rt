@@ -1,12 +1,12 @@
 #![tactic(auto)]
 
-mod boxes;
 mod bytes;
 mod columns;
 mod form;
 mod moves;
 mod nibble;
 mod rows;
+mod s_boxes;
 mod shape;
 mod sums;
 

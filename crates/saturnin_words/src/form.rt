@@ -63,19 +63,19 @@ impl Form for State {
         }
     }
 
-    fn slices(self) -> State {
+    fn shift_slices(self) -> State {
         self.turned::<4, 0, 1, 2, 3>()
     }
 
-    fn slices_back(self) -> State {
+    fn shift_slices_back(self) -> State {
         self.turned::<4, 0, 3, 2, 1>()
     }
 
-    fn sheets(self) -> State {
+    fn shift_sheets(self) -> State {
         self.turned::<16, 0, 4, 8, 12>()
     }
 
-    fn sheets_back(self) -> State {
+    fn shift_sheets_back(self) -> State {
         self.turned::<16, 0, 12, 8, 4>()
     }
 

@@ -46,7 +46,7 @@ Only text word = (first_word text ≡ word) × IsText word × (after_word text �
 abbrev pub OnlyNumeral : (bits : ℕ) (text : List ℕ) (n : ℕ) → Type 0
 OnlyNumeral bits text n = Numeral bits (first_word text) n × (after_word text ≡ [])
 
--- what is read: something that is spelt so, or nothing where nothing is spelt so
-abbrev pub Reads : {A : Type 0} → (spells : A → Type 0) → Option A → Type 0
-Reads spells (Some a) = spells a
-Reads {A} spells None = (a : A) → ¬ (spells a)
+-- what a text is read as: something that it spells, or nothing where it spells nothing
+abbrev pub Parses : {A : Type 0} → (spells : A → Type 0) → Option A → Type 0
+Parses spells (Some a) = spells a
+Parses {A} spells None = (a : A) → ¬ (spells a)

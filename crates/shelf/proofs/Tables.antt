@@ -1,7 +1,7 @@
 -- A call on a shelf by what its table answered.
-use Rattle.std.proofs.Common.{◌≡◌, ℕ, ◌<◌, List, length, Some, None, Ok, Result, rules, arith}
+use Rattle.std.proofs.Common.{◌≡◌, ℕ, ◌<◌, List, length, Ok, Result, rules, arith}
 use Rattle.std.proofs.lemmas.Grind.{common_steps}
-use Rattle.faults.specs.Tables.{Checks, Clear}
+use Rattle.faults.specs.Tables.{Clear}
 use Rattle.faults.specs.declared.ShelfFault.{ShelfFault}
 use Rattle.shelf.specs.Meaning.{Meaning, Open, get_table, put_table, Gets, Puts, Placed}
 

@@ -1,4 +1,5 @@
--- A tray: places one after another in a memory, all of them always open. What is left of the memory is spare.
+-- A tray: places one after another in a memory, all of them always open. What is left of the
+-- memory is spare.
 use Rattle.std.specs.Prelude.{◌≡◌, ℕ, ◌*◌, ◌/◌, min, List, length, drop, nat_lt}
 use Rattle.octets.specs.Octets.{part, written}
 use Rattle.shelf.specs.Meaning.{Meaning}
@@ -14,7 +15,9 @@ tray memory = record {
   bytes = λ p. part (1024 * p) 1024 memory;
 }
 
--- a tray's memory after a done put: the bytes are written over those of the place, and the spare ones are as they were
+-- a tray's memory after a done put: the bytes are written over those of the place, and the spare
+-- ones are as they were
 pub record TrayStores (memory : List ℕ) (p : ℕ) (bytes memory' : List ℕ) : Type 0 where
   pub all : memory' ≡ written (1024 * p) bytes memory
-  pub spare : drop (1024 * tray_places (length memory)) memory' ≡ drop (1024 * tray_places (length memory)) memory
+  pub spare : drop (1024 * tray_places (length memory)) memory'
+      ≡ drop (1024 * tray_places (length memory)) memory

@@ -7,8 +7,8 @@ ghost use Rattle.shelf.specs.Meaning.{Lawful};
 use faults::ShelfFault;
 use shelf::Shelf;
 
-/// Places of 1,024 bytes one after another in lent memory, at most 4,096, all of them always open. The memory may have any
-/// length; spare bytes at its end are the lender's.
+/// Places of 1,024 bytes one after another in lent memory, at most 4,096, all of them always
+/// open. The memory may have any length; spare bytes at its end are the lender's.
 #[derive(Drop)]
 pub struct Tray<'a> {
     memory: &'a mut [u8],
@@ -39,7 +39,8 @@ impl Shelf for Tray<'_> {
 
     ghost lawful = { λ t. t.lawful };
 
-    ghost stores = { λ s p bytes t. TrayStores s.memory.now p bytes t.memory.now × (t.memory.ghost_name ≡ s.memory.ghost_name) };
+    ghost stores = { λ s p bytes t. TrayStores s.memory.now p bytes t.memory.now
+        × (t.memory.ghost_name ≡ s.memory.ghost_name) };
 
     fn count(&self) -> u32 {
         (self.memory.len() / 1024).min(4096) as u32

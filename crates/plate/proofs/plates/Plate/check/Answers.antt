@@ -1,4 +1,4 @@
-use Rattle.std.proofs.Common.{refl, arith}
+use Rattle.std.proofs.Common.{arith}
 use Rattle.plate.specs.Plates.{cells}
 use Rattle.plate.proofs.Marks.{no_gap}
 use Rattle.plate.proofs.plates.Plate.check.Goals as goal
@@ -12,5 +12,5 @@ returns-in-1-to-4096 c =
         marks = c.if-marks_fit.ensures;
         order = no_gap memory (cells memory) c.if-not-has_gap.ensures;
       })),
-      λ fit. refl,
+      tt,
     )
