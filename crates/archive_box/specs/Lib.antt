@@ -1,3 +1,3 @@
 pub mod Boxes
-pub mod Numbers
+pub mod Returned
 pub mod Viewings

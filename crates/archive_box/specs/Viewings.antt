@@ -8,7 +8,15 @@ use Rattle.archive_box.specs.declared.viewing.Sheet.{Sheet}
 abbrev pub Viewable : (bytes : List ℕ) → Type 0
 Viewable bytes = (length bytes ≡ 1024) × (length_in bytes ≤ 928)
 
--- the parts of the record; after a read its message stands where a sealed one has its ciphertext
+-- the number of the record, where there is one to view
+abbrev pub ShowsNumber : (bytes : List ℕ) → Option ℕ → Type 0
+ShowsNumber bytes None = Not (Viewable bytes)
+ShowsNumber bytes (Some number) = Viewable bytes × (number ≡ number_in bytes)
+
+-- its number, its label and its message; after a read the message stands where a sealed record has its ciphertext
 abbrev pub Shows : (bytes : List ℕ) → Option Sheet → Type 0
-Shows bytes None = Not (Viewable bytes)
-Shows bytes (Some sheet) = Viewable bytes × (sheet.number ≡ number_in bytes) × (sheet.label.now ≡ label_in bytes) × (sheet.message.now ≡ text_in bytes)
+Shows bytes None = ShowsNumber bytes None
+Shows bytes (Some sheet) =
+    ShowsNumber bytes (Some sheet.number)
+    × (sheet.label.now ≡ label_in bytes)
+    × (sheet.message.now ≡ text_in bytes)

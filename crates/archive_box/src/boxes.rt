@@ -1,6 +1,9 @@
+ghost use Rattle.std.specs.Prelude.{◌≤◌};
+
 use numbers::NumbersOut;
 
-// A box on a cipher and a shelf, which it holds.
+/// A box on a cipher and a shelf, which it holds: it hands out numbers from its first to
+/// 999,999,999, at most sixteen of them at a time, and seals under each at most once.
 #[derive(Drop)]
 pub struct ArchiveBox<C, S> {
     pub(crate) cipher: C,
@@ -9,4 +12,5 @@ pub struct ArchiveBox<C, S> {
     pub(crate) sign: [u8; 8],
     pub(crate) next: u64,
     pub(crate) out: NumbersOut,
+    ghost from_one: { 1 ≤ next },
 }

@@ -1,22 +1,23 @@
-ghost use Rattle.std.specs.Prelude.{◌≡◌, ℕ};
+ghost use Rattle.std.specs.Prelude.{◌≡◌};
 ghost use Rattle.box_model.specs.Calls.{Draws};
-ghost use Rattle.archive_box.specs.Boxes.{fixed, made, state};
-ghost use Rattle.archive_box.specs.Numbers.{drawn_value};
+ghost use Rattle.archive_box.specs.Boxes.{Turns};
+ghost use Rattle.archive_box.specs.Returned.{drawn_value};
 
 use crate::boxes::ArchiveBox;
 use crate::number::Number;
-use faults::{BoxCause, BoxFault};
 use cipher::TwoWayCipher;
+use faults::{BoxCause, BoxFault};
 use shelf::Shelf;
 
 const LAST: u64 = 999_999_999;
 
 impl<C: TwoWayCipher, S: Shelf> ArchiveBox<C, S> {
-    // Hands out the next number, which is then out.
+    /// Hands out the next number, which is then out. Refused with 7 after 999,999,999, and with 8
+    /// while sixteen numbers are out.
     pub fn draw(&mut self) -> Result<Number, BoxFault>
-        ensures fixed { fixed self.new ≡ fixed self.old }
         ensures shelf { self.new.shelf ≡ self.old.shelf }
-        ensures draws { Draws (made C.Cipher.forward C.TwoWayCipher.back self.old) (state S.Shelf.meaning self.old) (drawn_value result) (state S.Shelf.meaning self.new) }
+        ensures draws { Turns C.Cipher.forward C.TwoWayCipher.back S.Shelf.meaning
+            (λ made s. Draws made s (drawn_value result)) self.old self.new }
     {
         if self.next > LAST {
             return Err(BoxCause::UsedUp.into());

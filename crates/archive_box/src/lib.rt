@@ -14,4 +14,4 @@ mod viewing;
 
 pub use boxes::ArchiveBox;
 pub use number::{Number, Refusal};
-pub use viewing::{Sheet, Viewing};
+pub use viewing::{Sheet, Viewing, number_shown};

@@ -1,19 +1,22 @@
-ghost use Rattle.std.specs.Prelude.{◌≡◌, ℕ, List, Some, IfErr, MatchResult};
-ghost use Rattle.faults.specs.Causes.{placed};
-ghost use Rattle.faults.specs.Tables.{By, Clear};
+ghost use Rattle.std.specs.Prelude.{◌≡◌, IfErr, MatchResult};
+ghost use Rattle.faults.specs.Tables.{Checks, Clear};
 ghost use Rattle.box_model.specs.Calls.{seal_table, Seals};
-ghost use Rattle.archive_box.specs.Boxes.{fixed, made, state};
-ghost use Rattle.archive_box.specs.Numbers.{fault_of, with_place};
+ghost use Rattle.archive_box.specs.Boxes.{Turns, Tells};
+ghost use Rattle.archive_box.specs.Returned.{fault_of, with_place};
 
 use crate::boxes::ArchiveBox;
 use crate::number::{Number, Refusal};
-use faults::{BoxCause, BoxFault};
 use cipher::TwoWayCipher;
+use faults::{BoxCause, BoxFault};
 use sealing::PlaceLock;
 use shelf::Shelf;
 
 impl<C: TwoWayCipher, S: Shelf> ArchiveBox<C, S> {
-    // Seals a sheet under the number, puts it at the place, leaves its record in the buffer, and spends the number.
+    /// Seals a sheet under the number, puts it at the place, leaves its record in the buffer, and
+    /// spends the number. The label has 46 bytes, the message at most 928, and the buffer 1,024.
+    /// Refused with 1 for another length of label or buffer, 2 for a longer message, 4 outside and
+    /// 5 where the place is shut, and 6 for a number that is not out in this box, each with the
+    /// place; the number is then handed back, and box, shelf and buffer stay.
     pub fn seal(
         &mut self,
         number: Number,
@@ -23,9 +26,12 @@ impl<C: TwoWayCipher, S: Shelf> ArchiveBox<C, S> {
         bytes: &mut [u8],
     ) -> Result<(), Refusal>
         ensures back { IfErr result (λ r. r.number ≡ number) }
-        ensures fixed { fixed self.new ≡ fixed self.old }
-        ensures shelf { MatchResult result (λ _. S.Shelf.stores self.old.shelf place bytes.new self.new.shelf) (λ _. self.new ≡ self.old) }
-        ensures seals { Seals (made C.Cipher.forward C.TwoWayCipher.back self.old) (state S.Shelf.meaning self.old) number.value place label.now message.now bytes.old (fault_of result) bytes.new (state S.Shelf.meaning self.new) }
+        ensures shelf { MatchResult result
+            (λ _. S.Shelf.stores self.old.shelf place bytes.new self.new.shelf)
+            (λ _. self.new ≡ self.old) }
+        ensures seals { Turns C.Cipher.forward C.TwoWayCipher.back S.Shelf.meaning
+            (λ made s. Seals made s number.value place label.now message.now bytes.old (fault_of result) bytes.new)
+            self.old self.new }
     {
         match self.sealed(number.value, place, label, message, bytes) {
             Ok(()) => {
@@ -48,9 +54,12 @@ impl<C: TwoWayCipher, S: Shelf> ArchiveBox<C, S> {
         message: &[u8],
         bytes: &mut [u8],
     ) -> Result<(), BoxFault>
-        ensures fixed { fixed self.new ≡ fixed self.old }
-        ensures shelf { MatchResult result (λ _. S.Shelf.stores self.old.shelf place bytes.new self.new.shelf) (λ _. self.new ≡ self.old) }
-        ensures seals { Seals (made C.Cipher.forward C.TwoWayCipher.back self.old) (state S.Shelf.meaning self.old) number place label.now message.now bytes.old (with_place place result) bytes.new (state S.Shelf.meaning self.new) }
+        ensures shelf { MatchResult result
+            (λ _. S.Shelf.stores self.old.shelf place bytes.new self.new.shelf)
+            (λ _. self.new ≡ self.old) }
+        ensures seals { Turns C.Cipher.forward C.TwoWayCipher.back S.Shelf.meaning
+            (λ made s. Seals made s number place label.now message.now bytes.old (with_place place result) bytes.new)
+            self.old self.new }
     {
         self.sealable(number, place, label, message, bytes)?;
         let label = label.as_array().unwrap();
@@ -76,8 +85,11 @@ impl<C: TwoWayCipher, S: Shelf> ArchiveBox<C, S> {
         message: &[u8],
         bytes: &[u8],
     ) -> Result<(), BoxFault>
-        ensures { let rows = seal_table (made C.Cipher.forward C.TwoWayCipher.back self.now) (state S.Shelf.meaning self.now) number place label.now message.now bytes.now in
-            MatchResult result (λ _. Clear rows) (λ fault. By rows (λ cause. placed place fault ≡ record { cause = cause; place = Some place }) ⊥) }
+        ensures { Tells C.Cipher.forward C.TwoWayCipher.back S.Shelf.meaning
+            (λ made s.
+            let rows = seal_table made s number place label.now message.now bytes.now in
+            Checks rows (λ _. Clear rows) (with_place place result))
+            self.now }
     {
         if label.len() != 46 || bytes.len() != 1024 {
             return Err(BoxCause::Length.into());

@@ -1,24 +1,27 @@
-ghost use Rattle.std.specs.Prelude.{◌≡◌, ℕ, IfErr};
+ghost use Rattle.std.specs.Prelude.{◌≡◌, IfErr};
 ghost use Rattle.records.specs.Sheets.{nonce_of};
 ghost use Rattle.box_model.specs.Calls.{Slips, Unslips};
-ghost use Rattle.archive_box.specs.Boxes.{fixed, made, state};
-ghost use Rattle.archive_box.specs.Numbers.{fault_of};
+ghost use Rattle.archive_box.specs.Boxes.{Turns, Tells};
+ghost use Rattle.archive_box.specs.Returned.{fault_of};
 
 use crate::boxes::ArchiveBox;
 use crate::number::{Number, Refusal};
-use faults::{BoxCause, BoxFault};
-use modes::{open_short, seal_short};
-use octets::{joined, paste};
 use cipher::TwoWayCipher;
+use faults::{BoxCause, BoxFault};
+use octets::joined;
+use sealing::SlipLock;
 use shelf::Shelf;
 
 impl<C: TwoWayCipher, S: Shelf> ArchiveBox<C, S> {
-    // Makes a slip of 48 bytes under the number, and spends it.
+    /// Makes a slip under the number in a buffer of 48 bytes, and spends the number. Refused with 1
+    /// for a buffer of another length, 2 for a message above 15 bytes, and 6 for a number that is
+    /// not out in this box; the number is then handed back, and the buffer stays.
     pub fn slip(&mut self, number: Number, message: &[u8], bytes: &mut [u8]) -> Result<(), Refusal>
         ensures back { IfErr result (λ r. r.number ≡ number) }
-        ensures fixed { fixed self.new ≡ fixed self.old }
         ensures shelf { self.new.shelf ≡ self.old.shelf }
-        ensures slips { Slips (made C.Cipher.forward C.TwoWayCipher.back self.old) (state S.Shelf.meaning self.old) number.value message.now bytes.old (fault_of result) bytes.new (state S.Shelf.meaning self.new) }
+        ensures slips { Turns C.Cipher.forward C.TwoWayCipher.back S.Shelf.meaning
+            (λ made s. Slips made s number.value message.now bytes.old (fault_of result) bytes.new)
+            self.old self.new }
     {
         match self.slipped(number.value, message, bytes) {
             Ok(()) => {
@@ -31,33 +34,40 @@ impl<C: TwoWayCipher, S: Shelf> ArchiveBox<C, S> {
 
     // The same, with the number as a plain one.
     fn slipped(&mut self, number: u64, message: &[u8], bytes: &mut [u8]) -> Result<(), BoxFault>
-        ensures fixed { fixed self.new ≡ fixed self.old }
         ensures shelf { self.new.shelf ≡ self.old.shelf }
-        ensures slips { Slips (made C.Cipher.forward C.TwoWayCipher.back self.old) (state S.Shelf.meaning self.old) number message.now bytes.old result bytes.new (state S.Shelf.meaning self.new) }
+        ensures slips { Turns C.Cipher.forward C.TwoWayCipher.back S.Shelf.meaning
+            (λ made s. Slips made s number message.now bytes.old result bytes.new)
+            self.old self.new }
     {
-        if bytes.len() != 48 {
-            return Err(BoxCause::Length.into());
-        }
+        let bytes = bytes.as_mut_array().ok_or(BoxCause::Length)?;
         if message.len() > 15 {
             return Err(BoxCause::Limit.into());
         }
         self.is_out(number)?;
         let nonce = self.nonce(number);
-        seal_short(&self.cipher, &self.key, &nonce, message, &mut bytes[16..])?;
-        paste(bytes, 0, &nonce);
+        let lock = SlipLock {
+            cipher: &self.cipher,
+            key: &self.key,
+        };
+        lock.seal(&nonce, message, bytes)?;
         self.out.take_out(number);
         Ok(())
     }
 
-    // Opens a slip of 48 bytes into a buffer of 15; the length of its message is the answer.
+    /// Opens a slip of 48 bytes into a buffer of 15, which then holds its message and zeros; the
+    /// answer is the length of the message. Refused with 1 for another length of either, and with
+    /// 12 where the slip was not made under this key; the buffer is then zero.
     pub fn unslip(&self, bytes: &[u8], message: &mut [u8]) -> Result<usize, BoxFault>
-        ensures { Unslips (made C.Cipher.forward C.TwoWayCipher.back self.now) (state S.Shelf.meaning self.now) bytes.now message.old result message.new (state S.Shelf.meaning self.now) }
+        ensures { Tells C.Cipher.forward C.TwoWayCipher.back S.Shelf.meaning
+            (λ made s. Unslips made s bytes.now message.old result message.new) self.now }
     {
-        if bytes.len() != 48 || message.len() != 15 {
-            return Err(BoxCause::Length.into());
-        }
-        let (nonce, block) = bytes.split_at(16);
-        Ok(open_short(&self.cipher, &self.key, nonce, block, message)?)
+        let bytes = bytes.as_array().ok_or(BoxCause::Length)?;
+        let message = message.as_mut_array().ok_or(BoxCause::Length)?;
+        let lock = SlipLock {
+            cipher: &self.cipher,
+            key: &self.key,
+        };
+        Ok(lock.open(bytes, message)?)
     }
 
     // The nonce of a number: the sign of the box, and the number.

@@ -1,16 +1,16 @@
 ghost use Rattle.std.specs.Prelude.{◌≡◌, ◌≢◌, length};
 ghost use Rattle.octets.specs.Octets.{zeros};
-ghost use Rattle.archive_box.specs.Viewings.{Shows};
+ghost use Rattle.archive_box.specs.Viewings.{Shows, ShowsNumber};
 
 use records::number_in;
 
-// A viewing is the time in which a read sheet is looked at: it borrows the record buffer that the read has filled, and however
-// it ends, the buffer is then zero.
+/// A viewing is the time in which a read sheet is looked at: it borrows the record buffer of 1,024
+/// bytes that the read has filled, and however it ends, the buffer is then zero.
 pub struct Viewing<'a> {
     record: &'a mut [u8],
 }
 
-// A sheet as a viewing shows it.
+/// A sheet as a viewing shows it: its number, its label of 46 bytes, and its message of at most 928.
 #[derive(Clone, Copy)]
 pub struct Sheet<'a> {
     pub number: u64,
@@ -19,7 +19,7 @@ pub struct Sheet<'a> {
 }
 
 impl<'a> Viewing<'a> {
-    // A buffer that is no record buffer, by its length, becomes zero at once.
+    /// A viewing of the buffer. One that is no record buffer, by its length, becomes zero at once.
     pub fn new(buffer: &'a mut [u8]) -> Viewing<'a>
         ensures lent { result.record.ghost_name ≡ buffer.entry.ghost_name }
         ensures fitting { length buffer.old ≡ 1024 → result.record.now ≡ buffer.old }
@@ -31,7 +31,8 @@ impl<'a> Viewing<'a> {
         Viewing { record: buffer }
     }
 
-    // The sheet in the buffer; none where there is no record buffer, or no room for the message that the record tells of.
+    /// The sheet in the buffer; none where that is no record buffer, or has no room for the message
+    /// that the record tells of.
     pub fn sheet(&self) -> Option<Sheet<'_>>
         ensures { Shows self.now.record.now result }
     {
@@ -53,4 +54,14 @@ impl Drop for Viewing<'_> {
         let Viewing { record } = self;
         record.fill(0);
     }
+}
+
+/// The number of the sheet in a record buffer; none where a viewing shows no sheet. The buffer is
+/// then zero.
+pub fn number_shown(buffer: &mut [u8]) -> Option<u64>
+    ensures shows { ShowsNumber buffer.old result }
+    ensures wiped { buffer.new ≡ zeros (length buffer.old) }
+{
+    let viewing = Viewing::new(buffer);
+    viewing.sheet().map(|sheet| sheet.number)
 }

@@ -1,3 +1,3 @@
 pub mod Laying
-pub mod Forms
 pub mod Reading
+pub mod Slipping

@@ -1,9 +1,10 @@
 #![tactic(auto)]
 
 mod found;
-mod lock;
+mod locks;
 mod openings;
 mod seals;
+mod slips;
 
 pub use found::Found;
-pub use lock::PlaceLock;
+pub use locks::{PlaceLock, SlipLock};

@@ -1,7 +1,7 @@
 use Rattle.std.proofs.Common.{◌≡◌, Some, length, sym, refl, ap, ◌∙◌, rules}
 use Rattle.octets.specs.Octets.{zeros}
 use Rattle.archive_box.specs.Boxes.{made, state}
-use Rattle.archive_box.specs.Numbers.{with_place}
+use Rattle.archive_box.specs.Returned.{with_place}
 use Rattle.archive_box.proofs.Placing.{placed_by}
 use Rattle.archive_box.proofs.Numbering.{number_by}
 use Rattle.archive_box.proofs.boxes.ArchiveBox.number_at.Goals as goal

@@ -1,12 +1,14 @@
-use Rattle.std.proofs.Common.{◌≡◌, subst, rules}
-use Rattle.box_model.specs.Calls.{Reads}
+use Rattle.std.proofs.Common.{◌≡◌, length, sym, ◌∙◌, subst, rules}
+use Rattle.shelf.specs.Meaning.{Gets}
 use Rattle.archive_box.specs.Boxes.{made, state}
-use Rattle.archive_box.specs.Numbers.{number_and_length, with_place}
+use Rattle.archive_box.proofs.Reading.{read_by}
 use Rattle.archive_box.proofs.boxes.ArchiveBox.opened.Goals as goal
 
-pub returns-in-Some : goal.returns-in-Some
-returns-in-Some g c =
+pub returns : goal.returns
+returns g c =
     let m = made g.C.Cipher.forward g.C.TwoWayCipher.back c.args.self.now in
     let s = state g.S.Shelf.meaning c.args.self.now in
-    let same : c.in-Some.bytes.now ≡ c.args.bytes.now = search rules in
-    subst (λ b. Reads m s c.args.place b (number_and_length (with_place c.args.place c.opened_record.result)) c.opened_record.new.bytes s) same c.opened_record.ensures
+    let whole : length c.args.bytes.now ≡ 1024 = search rules in
+    let same : c.in_ok-bytes.bytes.now ≡ c.args.bytes.now = search rules in
+    let gets = subst (λ b. Gets s.shelf c.args.place b c.get.result c.get.new.buffer) same c.get.ensures in
+    read_by m s c.args.place c.args.bytes.now c.get.new.buffer _ _ whole (subst (λ r. Gets s.shelf c.args.place c.args.bytes.now r c.get.new.buffer) c.in_ok-get.was gets) c.open.ensures

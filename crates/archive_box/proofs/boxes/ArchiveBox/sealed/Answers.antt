@@ -10,7 +10,7 @@ pub returns-in_err-sealable-clause-seals : goal.returns-in_err-sealable-clause-s
 returns-in_err-sealable-clause-seals g c =
     let m = made g.C.Cipher.forward g.C.TwoWayCipher.back c.args.self.now in
     let s = state g.S.Shelf.meaning c.args.self.now in
-    seal_refused m s c.args.number c.args.place c.args.label.now c.args.message.now c.args.bytes.now c.in_err-sealable.field-0.0 c.from_residual.result (handed_on _ c.from_residual.result c.from_residual.ensures.1) c.in_err-sealable.ensures
+    (refl, seal_refused m s c.args.number c.args.place c.args.label.now c.args.message.now c.args.bytes.now c.in_err-sealable.field-0.0 c.from_residual.result (handed_on _ c.from_residual.result c.from_residual.ensures.1) c.in_err-sealable.ensures)
 
 pub returns-in_err-put-clause-seals : goal.returns-in_err-put-clause-seals
 returns-in_err-put-clause-seals g c =
@@ -30,6 +30,8 @@ returns-clause-seals g c =
     let label : c.unwrap-label.result.now ≡ c.args.label.now = search rules in
     let put = put_done m s c.args.number c.args.place c.args.label.now c.args.message.now c.args.bytes.now clear c.seal.new.bytes c.put.result (g.S.Shelf.meaning c.put.new.self) long c.put.ensures.puts in
     let done = c.seal.ensures.1 clear.1.0 in
-    let e = done.1 ∙ ap₂ (λ n l. sheet_under f c.args.self.now.key n c.args.place l c.args.message.now) c.nonce-nonce.ensures label in
-    seal_done m s c.args.number c.args.place c.args.label.now c.args.message.now c.args.bytes.now clear c.seal.new.bytes
-    (record { shelf = g.S.Shelf.meaning c.put.new.self; next = s.next; out = listed c.take_out.new.self }) e put.1 refl c.take_out.ensures
+    let e = done.1 ∙ ap₂ (λ n l. sheet_under f c.args.self.now.key n c.args.place l c.args.message.now) c.nonce-nonce.ensures label in (
+      refl,
+      seal_done m s c.args.number c.args.place c.args.label.now c.args.message.now c.args.bytes.now clear c.seal.new.bytes
+          (g.S.Shelf.meaning c.put.new.self) (listed c.take_out.new.self) e put.1 c.take_out.ensures,
+    )

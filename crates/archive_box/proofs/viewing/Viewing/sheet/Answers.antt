@@ -15,8 +15,7 @@ returns c =
     let whole = c.in_ok-record.ensures.cases in
     let told = c.from_be_bytes-length.ensures in
     let got = c.in_ok-message.ensures.lookup.0 in (
-      (whole.long, omega (arith, length_is _ _ whole _ told, room_is _ _ whole _ told, got.1)),
-      c.number_in.ensures ∙ ap number_in whole.same,
+      ((whole.long, omega (arith, length_is _ _ whole _ told, room_is _ _ whole _ told, got.1)), c.number_in.ensures ∙ ap number_in whole.same),
       search rules,
       got.2 ∙ message_is _ _ whole _ told got.1,
     )

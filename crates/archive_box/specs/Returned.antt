@@ -1,4 +1,4 @@
--- The answers of the calls that hand out or take a number.
+-- What the calls return, in the words of their definitions.
 use Rattle.std.specs.Prelude.{ℕ, Ok, Err, Result}
 use Rattle.faults.specs.declared.BoxFault.{BoxFault}
 use Rattle.faults.specs.Causes.{placed}
