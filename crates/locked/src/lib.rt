@@ -4,10 +4,10 @@ ghost use Rattle.std.specs.Prelude.{◌≡◌, ◌+◌, ◌≤◌};
 ghost use Rattle.faults.specs.Tables.{Checks};
 ghost use Rattle.locked.specs.Locked.{lock_table, Locks, Unlocks};
 
+use cipher::Cipher;
 use faults::{ModeCause, ModeFault};
 use modes::Cascade;
 use octets::paste;
-use cipher::Cipher;
 
 const MAGIC: &[u8] = b"MGL1";
 
