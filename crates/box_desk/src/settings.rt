@@ -100,8 +100,10 @@ impl Settings {
     }
 
     fn load(&mut self, kind: Kind, image: Vec<u8>)
-        ensures { let held = record { kind = kind; image = image } in
-            self.new ≡ record self.old { loaded = Some held; has_shelf = true } }
+        ensures { self.new ≡ record self.old {
+            loaded = Some (record { kind = kind; image = image });
+            has_shelf = true
+        } }
     {
         self.loaded = Some(Loaded { kind, image });
         self.has_shelf = true;

@@ -2,11 +2,15 @@
 use Rattle.std.specs.Prelude.{◌≡◌, ℕ, ◌<◌, ◌≤◌, List, ◌++◌, length, Ok, Err, codes, Result}
 use Rattle.faults.specs.Causes.{mode_fault}
 use Rattle.faults.specs.declared.ModeCause.TheVariants.{Limit}
-use Rattle.hex.specs.Hex.{encode_lower}
+use Rattle.hex.specs.Hex.{encode_lower, decode_of}
 use Rattle.modes.specs.Hash.{hash}
 use Rattle.saturnin.specs.Rounds.{forward}
 use Rattle.desk.specs.declared.unmade.Unmade.{Unmade}
 use Rattle.desk.specs.declared.unmade.Unmade.TheVariants.{Refused, Unfit, Memory}
+
+-- the hexadecimal digits of these bytes are read as the very bytes
+abbrev pub DigitsSpell : (bytes : List ℕ) → Type 0
+DigitsSpell bytes = decode_of (encode_lower bytes) ≡ Ok bytes
 
 -- the digest in hexadecimal digits, two blanks and the name
 abbrev pub digest_line : (name bytes : List ℕ) → List ℕ

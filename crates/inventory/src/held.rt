@@ -1,6 +1,6 @@
-// A place that holds a record, and the number in it.
+/// A place that holds a record, and the number in it.
 #[derive(Clone, Copy, PartialEq, Eq, Debug)]
-pub struct Entry {
+pub struct HeldRecord {
     pub place: u32,
     pub number: u64,
 }

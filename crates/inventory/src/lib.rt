@@ -1,9 +1,9 @@
 #![tactic(auto)]
 
-mod entries;
+mod held;
 mod inventory;
 mod reports;
 
-pub use entries::Entry;
+pub use held::HeldRecord;
 pub use inventory::{inventory_of, open_places};
 pub use reports::report;

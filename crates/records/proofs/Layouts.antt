@@ -8,7 +8,7 @@ use Rattle.octets.proofs.Writes.{part_is}
 use Rattle.records.specs.Records.{length_in, text_in, filling_in}
 
 -- the part b of a text in three parts, and the part c of one in four
-part_at : (a b c : List ℕ) (from size : ℕ) → length a ≡ from → length b ≡ size → part from size (a ++ (b ++ c)) ≡ b
+pub part_at : (a b c : List ℕ) (from size : ℕ) → length a ≡ from → length b ≡ size → part from size (a ++ (b ++ c)) ≡ b
 part_at a b c from size h k = ap (take size) (drop_at a (b ++ c) from h) ∙ take_at b c size k
 
 part_after : (a b c d : List ℕ) (from size : ℕ) → length a + length b ≡ from → length c ≡ size → part from size (a ++ (b ++ (c ++ d))) ≡ c

@@ -1,8 +1,7 @@
 -- A record that is opened, by what the opening of its parts answered.
-use Rattle.std.proofs.Common.{◌≡◌, ℕ, List, [], ◌∷◌, ◌++◌, length, take, drop, None, Ok, Err, Result, sym, ap, ◌∙◌, arith}
+use Rattle.std.proofs.Common.{◌≡◌, ℕ, List, [], ◌∷◌, length, Ok, Err, Result, sym, ap, ◌∙◌, arith}
 use mathlib.Core.Path.{transport}
 use Rattle.std.proofs.lemmas.List.{length-take, length-drop, length-append}
-use Rattle.faults.specs.declared.BoxCause.TheVariants.{Mode}
 use Rattle.faults.specs.Causes.{mode_fault, from_mode, left}
 use Rattle.faults.specs.Tables.{Table, By, Not, Clear}
 use Rattle.faults.specs.declared.ModeCause.TheVariants.{Tag}
@@ -13,7 +12,7 @@ use Rattle.faults.proofs.Tables.{by_follows}
 use Rattle.octets.specs.Octets.{big_endian}
 use Rattle.octets.proofs.Numbers.{length-big_endian}
 use Rattle.cipher.specs.Meaning.{BlockFunction}
-use Rattle.modes.specs.Cascade.{ctr, CascadeOpens}
+use Rattle.modes.specs.Cascade.{CascadeOpens}
 use Rattle.modes.proofs.Streams.{length-ctr}
 use Rattle.records.specs.Records.{empty, nonce_in, head_in, length_in, text_in, tag_in, WellFormed}
 use Rattle.records.specs.Sheets.{associated, right_tag, message_in}

@@ -2,7 +2,7 @@
 use Rattle.std.proofs.Common.{◌≡◌, ℕ, ◌+◌, ◌<◌, List, ◌++◌, length, take, drop, Ok, Err, Result, sym, refl, ap, ◌∙◌, arith}
 use mathlib.Core.Path.{transport}
 use borrow.Rule.Slice.PartMut.{mid_of, put_mid, post_of, Post-is}
-use Rattle.std.proofs.lemmas.List.{length-take, length-drop, take-append-drop, drop_at, drop_all, append-nil, drop-drop}
+use Rattle.std.proofs.lemmas.List.{length-take, length-drop, take-append-drop, drop_at, drop_all, append-nil}
 use Rattle.faults.specs.Causes.{mode_fault}
 use Rattle.faults.specs.Tables.{Not}
 use Rattle.faults.specs.declared.ModeCause.TheVariants.{Limit}

@@ -15,7 +15,9 @@ abbrev pub seal_sheet_table : (message : List ℕ) → Table ModeFault
 seal_sheet_table message = (text_room < length message, mode_fault Limit) ∷ []
 
 -- a sealing, by its answer and by what the bytes of the record are after it
-abbrev pub SealsSheet : BlockFunction → (key nonce : List ℕ) (place : ℕ) (label message bytes : List ℕ) → Result (Unit {0}) ModeFault → (bytes' : List ℕ) → Type 0
+abbrev pub SealsSheet : BlockFunction
+    → (key nonce : List ℕ) (place : ℕ) (label message bytes : List ℕ)
+    → Result (Unit {0}) ModeFault → (bytes' : List ℕ) → Type 0
 SealsSheet f key nonce place label message bytes answer bytes' =
     By (seal_sheet_table message)
     (λ fault. (answer ≡ Err fault) × (bytes' ≡ bytes))
@@ -28,13 +30,15 @@ form_table bytes =
     ∷ (Not (WellFormed bytes), box_fault None Filling)
     ∷ []
 
-abbrev pub open_sheet_table : BlockFunction → (key : List ℕ) (place : ℕ) (bytes : List ℕ) → Table BoxFault
+abbrev pub open_sheet_table : BlockFunction → (key : List ℕ) (place : ℕ) (bytes : List ℕ)
+    → Table BoxFault
 open_sheet_table f key place bytes =
     form_table bytes
     ++ ((Not (tag_in bytes ≡ right_tag f key place bytes), box_fault None (Mode Tag)) ∷ [])
 
 -- an opening, by its answer and by what the bytes of the record are after it
-abbrev pub OpensSheet : BlockFunction → (key : List ℕ) (place : ℕ) (bytes : List ℕ) → Result Found BoxFault → (bytes' : List ℕ) → Type 0
+abbrev pub OpensSheet : BlockFunction → (key : List ℕ) (place : ℕ) (bytes : List ℕ)
+    → Result Found BoxFault → (bytes' : List ℕ) → Type 0
 OpensSheet f key place bytes answer bytes' =
     By (open_sheet_table f key place bytes)
     (λ fault. (answer ≡ Err fault) × (bytes' ≡ empty))

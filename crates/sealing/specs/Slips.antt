@@ -14,7 +14,8 @@ abbrev pub seal_slip_table : (message : List ℕ) → Table ModeFault
 seal_slip_table message = (15 < length message, mode_fault Limit) ∷ []
 
 -- a sealing, by its answer and by what the bytes of the slip are after it
-abbrev pub SealsSlip : BlockFunction → (key nonce message bytes : List ℕ) → Result (Unit {0}) ModeFault → (bytes' : List ℕ) → Type 0
+abbrev pub SealsSlip : BlockFunction → (key nonce message bytes : List ℕ)
+    → Result (Unit {0}) ModeFault → (bytes' : List ℕ) → Type 0
 SealsSlip f key nonce message bytes answer bytes' =
     By (seal_slip_table message)
     (λ fault. (answer ≡ Err fault) × (bytes' ≡ bytes))
@@ -29,8 +30,10 @@ abbrev pub open_slip_table : (back : BlockFunction) → (key bytes : List ℕ) �
 open_slip_table back key bytes =
     (Not ((message : List ℕ) × SlipHolds back key bytes message), mode_fault Padding) ∷ []
 
--- an opening, by its answer, the length of the message, and by what the buffer of 15 bytes holds after it
-abbrev pub OpensSlip : (back : BlockFunction) → (key bytes : List ℕ) → Result ℕ ModeFault → (out' : List ℕ) → Type 0
+-- an opening, by its answer, the length of the message, and by what the buffer of 15 bytes holds
+-- after it
+abbrev pub OpensSlip : (back : BlockFunction) → (key bytes : List ℕ)
+    → Result ℕ ModeFault → (out' : List ℕ) → Type 0
 OpensSlip back key bytes answer out' =
     By (open_slip_table back key bytes)
     (λ fault. (answer ≡ Err fault) × (out' ≡ zeros 15))

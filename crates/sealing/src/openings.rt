@@ -15,8 +15,8 @@ use records::{Record, TEXT_AT};
 
 impl<'a, C: Cipher> PlaceLock<'a, C> {
     /// Opens the record of the place in its buffer of 1,024 bytes: the message then stands in place
-    /// of its ciphertext. Refused with 9 for an empty record, 10 for a length above 928 or a filling
-    /// that is not zero, and 11 for another tag; the buffer is then zero.
+    /// of its ciphertext. Refused with 9 for an empty record, 10 for a length above 928 or a
+    /// filling that is not zero, and 11 for another tag; the buffer is then zero.
     pub fn open(&self, bytes: &mut [u8; 1024]) -> Result<Found, BoxFault>
         ensures { OpensSheet (C.Cipher.forward self.now.cipher.now) self.now.key.now self.now.place
             bytes.old result bytes.new }
@@ -66,7 +66,9 @@ impl<'a, C: Cipher> PlaceLock<'a, C> {
 // The text of a record that is well-formed, and not empty.
 fn formed_text(bytes: &[u8; 1024]) -> Result<&[u8], BoxFault>
     ensures { Checks (form_table bytes.now)
-        (λ text. (text.now ≡ text_in bytes.now) × Not (bytes.now ≡ empty) × WellFormed bytes.now) result }
+        (λ text. (text.now ≡ text_in bytes.now)
+        × Not (bytes.now ≡ empty)
+        × WellFormed bytes.now) result }
 {
     let record = Record { bytes };
     if record.is_empty() {

@@ -7,8 +7,8 @@ use modes::{open_short, seal_short};
 use records::{BLOCK_AT, Slip};
 
 impl<C: TwoWayCipher> SlipLock<'_, C> {
-    /// Seals a message of at most 15 bytes into a slip of 48, under a nonce of 16 bytes. Refused with
-    /// 2 for a longer message; the slip then stays.
+    /// Seals a message of at most 15 bytes into a slip of 48, under a nonce of 16 bytes. Refused
+    /// with 2 for a longer message; the slip then stays.
     pub fn seal(
         &self,
         nonce: &[u8; 16],
@@ -25,7 +25,8 @@ impl<C: TwoWayCipher> SlipLock<'_, C> {
     }
 
     /// Opens a slip of 48 bytes into a buffer of 15: the message, then zeros; its length is the
-    /// answer. Refused with 12 for another nonce in the block, or no padding; the buffer is then zero.
+    /// answer. Refused with 12 for another nonce in the block, or no padding; the buffer is then
+    /// zero.
     pub fn open(&self, bytes: &[u8; 48], message: &mut [u8; 15]) -> Result<usize, ModeFault>
         ensures { OpensSlip (C.TwoWayCipher.back self.now.cipher.now) self.now.key.now bytes.now
             result message.new }

@@ -14,9 +14,10 @@ returns-in-Ok g c =
     let ok = c.in-Ok.ensures in
     let answer : Result Found BoxFault = Ok (record { number = c.number-number.result; length = c.len.result }) in
     let laid = c.paste.ensures.fitting (omega (arith, c.deref.ensures.1, c.told-bytes)) ∙ ap (λ m. written 64 m bytes) c.deref.ensures.0 in
-    by_clear (λ fault. (answer ≡ Err fault) × (c.paste.new.bytes ≡ empty)) _ (open_sheet_table (g.C.Cipher.forward s.cipher.now) s.key.now s.place bytes) ok.0
-    (ap₂ (λ (x y : ℕ). Ok (record { number = x; length = y })) c.number-number.ensures (c.len.ensures.value ∙ ok.1),
-    laid ∙ ap₂ (λ m k. take 64 bytes ++ (m ++ drop (64 + k) bytes)) ok.2 ok.1)
+    by_clear (λ fault. (answer ≡ Err fault) × (c.paste.new.bytes ≡ empty)) _ (open_sheet_table (g.C.Cipher.forward s.cipher.now) s.key.now s.place bytes) ok.0 (
+      ap₂ (λ (x y : ℕ). Ok (record { number = x; length = y })) c.number-number.ensures (c.len.ensures.value ∙ ok.1),
+      laid ∙ ap₂ (λ m k. take 64 bytes ++ (m ++ drop (64 + k) bytes)) ok.2 ok.1,
+    )
 
 pub returns-in-Err : goal.returns-in-Err
 returns-in-Err g c =

@@ -1,5 +1,5 @@
-use Rattle.std.proofs.Common.{◌≡◌, ◌≤◌, ◌++◌, length, take, drop, refl, ap, ◌∙◌, arith, rules}
-use Rattle.std.proofs.lemmas.List.{length-append, length-replicate}
+use Rattle.std.proofs.Common.{◌≡◌, ◌≤◌, length, take, drop, refl, ap, ◌∙◌, arith, rules}
+use Rattle.std.proofs.lemmas.List.{length-append}
 use Rattle.octets.specs.Octets.{zeros, big_endian}
 use Rattle.octets.proofs.Numbers.{length-big_endian}
 use Rattle.octets.proofs.Writes.{put_is}
@@ -29,6 +29,7 @@ returns g c =
     let sealed = (c.seal.ensures.1 (λ k. k (key-long, middle_long 64 n c.begin.new.bytes (omega (arith, long)), refl))).1 (λ k. k (omega (arith, c.told-nonce), omega (arith, data-long), omega arith)) in
     let text-long : length c.seal.new.out ≡ n = ap length sealed.1 ∙ length-ctr f key nonce message in
     let all = finished nonce head c.seal.new.out c.seal.new.tag c.begin.new.bytes _ _ c.told-nonce head-long (omega (arith, text-long)) tag-long c.begin.ensures
-    (put_is 64 n c.begin.new.bytes c.seal.new.out c.seal.new.out refl text-long) (put_is 992 32 _ _ c.seal.new.tag c.copy_from_slice.ensures.after tag-long) in
-    (λ h. absurd (omega arith),
-    λ h. (refl, all ∙ as_sheet f key nonce label message c.seal.new.out c.associated-associated.result c.seal.new.tag s.place sealed.1 (c.associated-associated.ensures ∙ ap (associated s.place) head_is) sealed.2))
+    (put_is 64 n c.begin.new.bytes c.seal.new.out c.seal.new.out refl text-long) (put_is 992 32 _ _ c.seal.new.tag c.copy_from_slice.ensures.after tag-long) in (
+      λ h. absurd (omega arith),
+      λ h. (refl, all ∙ as_sheet f key nonce label message c.seal.new.out c.associated-associated.result c.seal.new.tag s.place sealed.1 (c.associated-associated.ensures ∙ ap (associated s.place) head_is) sealed.2),
+    )

@@ -1,4 +1,4 @@
-use Rattle.std.proofs.Common.{◌≡◌, ◌++◌, length, sym, ap, subst, List, ℕ, Ok, rules}
+use Rattle.std.proofs.Common.{◌≡◌, ◌++◌, length, sym, subst, List, ℕ, Ok, rules}
 use borrow.Rule.Slice.PartMut.{put_mid, post_of}
 use Rattle.faults.proofs.Results.{handed_on}
 use Rattle.sealing.specs.Slips.{SealsSlip}
