@@ -38,7 +38,8 @@ impl NumbersOut {
 
     /// Adds a number at the end; where sixteen are out, all stays as it was.
     pub fn add(&mut self, number: u64)
-        ensures room { length (listed self.old) < 16 → listed self.new ≡ listed self.old ++ (number ∷ []) }
+        ensures room { length (listed self.old) < 16
+            → listed self.new ≡ listed self.old ++ (number ∷ []) }
         ensures full { 16 ≤ length (listed self.old) → self.new ≡ self.old }
     {
         if !self.items.is_full() {
