@@ -3,4 +3,3 @@ pub mod Placing
 pub mod Reading
 pub mod Numbering
 pub mod Sealings
-pub mod Viewings

@@ -5,7 +5,7 @@ use Rattle.faults.specs.declared.ModeFault.{ModeFault}
 use Rattle.faults.specs.declared.BoxFault.{BoxFault}
 use Rattle.faults.proofs.Results.{never_both, same_error, same_value}
 use Rattle.octets.specs.Octets.{zeros}
-use Rattle.sealing.specs.Sealing.{OpensSlip}
+use Rattle.sealing.specs.Slips.{OpensSlip}
 use Rattle.box_model.specs.States.{Made, State}
 use Rattle.box_model.specs.Calls.{Unslips}
 

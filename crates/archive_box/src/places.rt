@@ -8,7 +8,7 @@ ghost use Rattle.archive_box.specs.Returned.{number_and_length, with_place};
 use crate::boxes::ArchiveBox;
 use cipher::TwoWayCipher;
 use faults::{BoxCause, BoxFault};
-use records::number_in;
+use records::Record;
 use sealing::{Found, PlaceLock};
 use shelf::Shelf;
 
@@ -68,10 +68,11 @@ impl<C: TwoWayCipher, S: Shelf> ArchiveBox<C, S> {
             (λ made s. TellsNumber made s place result) self.now }
     {
         let bytes = self.record(place).map_err(|fault| fault.placed(place))?;
-        if octets::is_zero(&bytes) {
+        let record = Record { bytes: &bytes };
+        if record.is_empty() {
             return Ok(None);
         }
-        Ok(Some(number_in(&bytes)))
+        Ok(Some(record.number()))
     }
 
     // What the place holds; without the place in a fault.

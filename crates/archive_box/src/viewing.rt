@@ -2,7 +2,7 @@ ghost use Rattle.std.specs.Prelude.{◌≡◌, ◌≢◌, length};
 ghost use Rattle.octets.specs.Octets.{zeros};
 ghost use Rattle.archive_box.specs.Viewings.{Shows, ShowsNumber};
 
-use records::number_in;
+use records::Record;
 
 /// A viewing is the time in which a read sheet is looked at: it borrows the record buffer of 1,024
 /// bytes that the read has filled, and however it ends, the buffer is then zero.
@@ -36,12 +36,12 @@ impl<'a> Viewing<'a> {
     pub fn sheet(&self) -> Option<Sheet<'_>>
         ensures { Shows self.now.record.now result }
     {
-        let record: &[u8; 1024] = self.record.as_array()?;
-        let length = u16::from_be_bytes([record[62], record[63]]) as usize;
-        let message = record[64..992].get(..length)?;
+        let bytes = self.record.as_array()?;
+        let record = Record { bytes };
+        let message = record.text()?;
         Some(Sheet {
-            number: number_in(record),
-            label: record[16..62].as_array().unwrap(),
+            number: record.number(),
+            label: record.label(),
             message,
         })
     }

@@ -12,7 +12,8 @@ Moves shift to = (s : Cube) (i : ℕ) → i < 64 → at (shift s) (to i) ≡ at 
 abbrev pub Undoes : (back there : Cube → Cube) → Type 0
 Undoes back there = (s : Cube) → length s ≡ 64 → back (there s) ≡ s
 
--- the shift of round r leaves every nibble, or takes it through its slice or through its sheet; and the way back
+-- the shift of round r leaves every nibble where it is, or takes it through its slice or through
+-- its sheet; and the way back from there
 pub record Shifts (r : ℕ) : Type 0 where
   pub none : r % 2 ≡ 0 → Moves (SR r) (λ i. i)
   pub slices : r % 4 ≡ 1 → Moves (SR r) slice_to

@@ -42,7 +42,8 @@ impl Nibble {
 impl Row {
     // One S-box at even y and another at odd y.
     pub(crate) fn through(self, even: SBox, odd: SBox) -> Row
-        ensures { IsRow result (λ y. cond (y % 2 == 0) (at even.table (of_row self y)) (at odd.table (of_row self y))) }
+        ensures { IsRow result (λ y.
+            cond (y % 2 == 0) (at even.table (of_row self y)) (at odd.table (of_row self y))) }
     {
         let [a, b, c, d] = self.nibbles;
         Row {

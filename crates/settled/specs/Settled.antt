@@ -1,5 +1,6 @@
 -- Cases that are settled: what the definitions must give.
-use Rattle.std.specs.Prelude.{◌≡◌, ℕ, suc, List, [], ◌∷◌, ◌++◌, map, cond, eqb, length, Some, Ok, Err, Result}
+use Rattle.std.specs.Prelude.{◌≡◌, ℕ, suc, List, [], ◌∷◌, ◌++◌, map, cond, eqb, length, Some, Ok}
+use Rattle.std.specs.Prelude.{Err, Result}
 use Rattle.faults.specs.Causes.{entry, from_mode, from_shelf}
 use Rattle.faults.specs.Tables.{Table, Clear, Checks}
 use Rattle.faults.specs.declared.ShelfFault.{ShelfFault}
@@ -30,7 +31,8 @@ abbrev pub Marks : (memory : List ℕ) (marks : List ℕ) → Type 0
 Marks memory marks = (cells memory ≡ length marks) × (table (length marks) (mark memory) ≡ marks)
 
 -- a refusal with this number, by the fault as the box hands it up
-abbrev pub RefusedWith : {A F : Type 0} → (handed_up : F → BoxFault) → (number : ℕ) → Result A F → Type 0
+abbrev pub RefusedWith : {A F : Type 0} → (handed_up : F → BoxFault) → (number : ℕ)
+    → Result A F → Type 0
 RefusedWith {A} {F} handed_up number answer =
     (fault : F) × (answer ≡ Err fault) × ((entry (handed_up fault).cause).number ≡ number)
 

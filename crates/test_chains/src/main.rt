@@ -11,8 +11,8 @@ use saturnin_words::WordForm;
 use std::alloc::{AllocError, Global};
 use std::io::{BufRead, BufReader};
 
-// Reads records of known-answer files from standard input, and prints the tag of each by the calls on
-// chains, once of its texts and once by the calls that the record lists.
+// Reads records of known-answer files from standard input, and prints the tag of each by the calls
+// on chains: once of its texts, and once after the calls that the record lists.
 fn main(rt: HostRuntime) -> anyhow::Result<()> {
     let heap = rt.alloc();
     let mut record = Record::new(heap);

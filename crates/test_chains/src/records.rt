@@ -2,8 +2,8 @@ use crate::runs::Piece;
 use anyhow::{Context, anyhow};
 use std::alloc::Global;
 
-// The lines `NAME = VALUE` of a record up to a blank line: two texts, and the calls that hand the same
-// texts to the chains. What has no line is 0 or empty.
+// The lines `NAME = VALUE` of a record up to a blank line: two texts, and the calls that hand the
+// same texts to the chains. What has no line is 0 or empty.
 #[derive(Drop)]
 pub(crate) struct Record {
     pub(crate) count: u32,

@@ -1,9 +1,7 @@
-ghost use Rattle.std.specs.Prelude.{◌≡◌, [], length};
-ghost use Rattle.faults.specs.Tables.{Checks};
+ghost use Rattle.std.specs.Prelude.{◌≡◌, []};
 ghost use Rattle.modes.specs.Bytes.{padded};
-ghost use Rattle.modes.specs.Cascade.{tag as tag_value};
 ghost use Rattle.modes.specs.Chains.{chain as chained};
-ghost use Rattle.modes.specs.Counters.{counter_table};
+ghost use Rattle.test_chains.specs.Runs.{ChainsGiveTheTag};
 
 use cipher::Cipher;
 use faults::ModeFault;
@@ -19,9 +17,8 @@ pub(crate) fn tag_of_texts<C: Cipher>(
     associated: &[u8],
     text: &[u8],
 ) -> Result<[u8; 32], ModeFault>
-    ensures { Checks (counter_table (length nonce.now))
-        (λ tag. tag ≡ tag_value (C.Cipher.forward cipher.now) key.now nonce.now associated.now text.now)
-        result }
+    ensures { ChainsGiveTheTag (C.Cipher.forward cipher.now) key.now nonce.now
+        associated.now text.now result }
 {
     let chain = DataChain::start(cipher, key, &CounterBlock::new(nonce, 0)?);
     Ok(hand_text(hand_data(chain, associated), text))

@@ -1,6 +1,6 @@
 use Rattle.std.proofs.Common.{◌≡◌, length, subst, rules}
 use Rattle.faults.proofs.Results.{handed_on}
-use Rattle.sealing.specs.Sealing.{OpensSlip}
+use Rattle.sealing.specs.Slips.{OpensSlip}
 use Rattle.archive_box.specs.Boxes.{made, state}
 use Rattle.archive_box.proofs.Unslipping.{unslip_refused, unslip_done}
 use Rattle.archive_box.proofs.boxes.ArchiveBox.unslip.Goals as goal
