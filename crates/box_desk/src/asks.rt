@@ -6,8 +6,8 @@ use crate::hand::Hand;
 use crate::image::Image;
 use crate::problems::Problem;
 use archive_box::{ArchiveBox, Number, Refusal};
-use files::write_whole;
 use cipher::TwoWayCipher;
+use files::write_whole;
 use shelf::Shelf;
 use std::alloc::Global;
 

@@ -49,7 +49,7 @@ impl Hand {
     pub fn first(&self) -> Option<u64>
         ensures { MatchOption result (self.now.numbers.items ≡ [])
             (λ value. (number : Number) × (rest : List Number)
-                × (self.now.numbers.items ≡ number ∷ rest) × (number.value ≡ value)) }
+            × (self.now.numbers.items ≡ number ∷ rest) × (number.value ≡ value)) }
     {
         Some(self.numbers.front()?.value())
     }
@@ -60,7 +60,7 @@ impl Hand {
             (λ problem. problem ≡ NoNumber value) }
         ensures others { MatchResult result
             (λ _. (at : ℕ) × Latest value self.old.numbers.items (Some at)
-                × (self.new.numbers.items ≡ remove self.old.numbers.items at))
+            × (self.new.numbers.items ≡ remove self.old.numbers.items at))
             (λ _. Latest value self.old.numbers.items None × (self.new ≡ self.old)) }
     {
         match self.latest(value) {

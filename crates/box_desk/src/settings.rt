@@ -101,8 +101,8 @@ impl Settings {
 
     fn load(&mut self, kind: Kind, image: Vec<u8>)
         ensures { self.new ≡ record self.old {
-            loaded = Some (record { kind = kind; image = image });
-            has_shelf = true
+          loaded = Some (record { kind = kind; image = image });
+          has_shelf = true;
         } }
     {
         self.loaded = Some(Loaded { kind, image });

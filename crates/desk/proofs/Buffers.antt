@@ -16,8 +16,8 @@ pub unlock_done : (key file out out' : List ℕ) (x : Unit {0}) → length out �
     → Unlocks forward key file out (Ok x) out' → Clear (unlock_rows key file) × FileHoldsOnly forward key file out'
 unlock_done key file out out' x l h =
     let w = done_when (λ fault. Is (Ok x) (Err fault) × (out' ≡ left (from_mode fault) out))
-        (Is (Ok x) (Ok tt) × FileHoldsOnly forward key file out')
-        (unlock_table forward key file (length out)) (λ fault r. never_both x fault r.0) h in
+    (Is (Ok x) (Ok tt) × FileHoldsOnly forward key file out')
+    (unlock_table forward key file (length out)) (λ fault r. never_both x fault r.0) h in
     (subst (λ n. Clear (unlock_table forward key file n)) l w.0, w.1.1)
 
 pub unlock_refused : (key file out out' : List ℕ) (fault : ModeFault) → length out ≡ length file - 56

@@ -4,8 +4,8 @@ ghost use Rattle.inventory.specs.Reports.{Reports};
 ghost use Rattle.desk.specs.Shelves.{PlateAnswer};
 
 use crate::unmade::Unmade;
-use plate::Plate;
 use inventory::report;
+use plate::Plate;
 use std::alloc::{AllocError, Global};
 use tray::Tray;
 

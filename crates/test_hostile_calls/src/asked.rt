@@ -1,8 +1,8 @@
 use crate::calls::{Call, Told};
 use archive_box::{ArchiveBox, Number, Refusal, Viewing};
 use box_desk::Hand;
-use faults::BoxFault;
 use cipher::TwoWayCipher;
+use faults::BoxFault;
 use shelf::Shelf;
 use std::alloc::AllocError;
 

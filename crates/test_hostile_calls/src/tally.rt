@@ -152,8 +152,19 @@ impl Counts {
         } = *self;
         print!(rt; "{name}: {done} done")?;
         let refused = [
-            length, limit, parameter, outside, shut, not_out, used_up, sixteen_out, empty, filling,
-            tag, padding, unfit,
+            length,
+            limit,
+            parameter,
+            outside,
+            shut,
+            not_out,
+            used_up,
+            sixteen_out,
+            empty,
+            filling,
+            tag,
+            padding,
+            unfit,
         ];
         for (index, count) in refused.iter().enumerate() {
             if *count > 0 {

@@ -1,7 +1,7 @@
 use crate::records::{Record, Text};
+use cipher::TwoWayCipher;
 use faults::ModeFault;
 use modes::Cascade;
-use cipher::TwoWayCipher;
 use std::alloc::{AllocError, Global};
 
 // Why there is no value.

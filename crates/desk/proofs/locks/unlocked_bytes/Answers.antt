@@ -38,5 +38,5 @@ returns c =
     let given = c.args.key.now.bytes.items in (
       subst (λ k. Clear (unlock_rows k file)) same d.0,
       subst (FileHoldsOnly forward given file) (sym (take_at c.unlock.new.out _ _ (k ∙ l)))
-      (subst (λ k. FileHoldsOnly forward k file c.unlock.new.out) same d.1),
+          (subst (λ k. FileHoldsOnly forward k file c.unlock.new.out) same d.1),
     )
