@@ -32,8 +32,7 @@ pub fn lock<C: Cipher>(
         nonce,
         associated: MAGIC,
     };
-    // Not refused: these are lengths that sealing takes.
-    let _ = under.seal(message, &mut file[56..], &mut tag);
+    under.seal(message, &mut file[56..], &mut tag)?;
     paste(file, 0, MAGIC);
     paste(file, 4, nonce);
     paste(file, 24, &tag);
