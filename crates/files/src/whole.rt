@@ -14,8 +14,8 @@ pub fn read_limited(rt: &HostRuntime, name: &str, limit: u64) -> io::Result<Vec<
     Ok(bytes)
 }
 
-/// Writes the bytes into a new file `name.part`, and gives it the name when it is whole. Until then,
-/// and on an error, a file that had the name stays as it is.
+/// Writes the bytes into a new file `name.part`, and gives it the name when it is whole. Until
+/// then, and on an error, a file that had the name stays as it is.
 pub fn write_whole(rt: &HostRuntime, name: &str, bytes: &[u8]) -> io::Result<()> {
     let part = format!(in rt.alloc(); "{name}.part")?;
     let mut file = OpenOptions::new()

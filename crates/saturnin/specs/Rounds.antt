@@ -1,5 +1,6 @@
 -- The round constants, the sub-keys, the rounds, and the cipher.
-use Rattle.std.specs.Prelude.{ℕ, zero, suc, ◌+◌, ◌*◌, ◌/◌, ◌%◌, cond, List, [], ◌∷◌, ◌==◌, bit_xor, nat_lt}
+use Rattle.std.specs.Prelude.{ℕ, zero, suc, ◌+◌, ◌*◌, ◌/◌, ◌%◌, cond, List, [], ◌∷◌, ◌==◌}
+use Rattle.std.specs.Prelude.{bit_xor, nat_lt}
 use Rattle.saturnin.specs.Bits.{bit}
 use Rattle.octets.specs.Lists.{at}
 use Rattle.saturnin.specs.Cube.{Cube, cube, to_cube, from_cube}

@@ -1,9 +1,11 @@
 -- The lines that calls are spelt by: the name of a call first, and the rest after it.
 use Rattle.std.specs.Prelude.{◌≡◌, ℕ, List, [], codes}
-use Rattle.script.specs.Words.{first_word, after_word, without_blanks, IsText, Only, Numeral, OnlyNumeral}
+use Rattle.script.specs.Words.{first_word, after_word, without_blanks, IsText, Only, Numeral}
+use Rattle.script.specs.Words.{OnlyNumeral}
 use Rattle.script.specs.Messages.{SpellsMessage}
 use Rattle.script.specs.declared.box_calls.BoxCall.{BoxCall}
-use Rattle.script.specs.declared.box_calls.BoxCall.TheVariants.{Draw, Seal, Slip, Void, Clear, Unslip, Number, Save}
+use Rattle.script.specs.declared.box_calls.BoxCall.TheVariants.{Draw, Seal, Slip, Void, Clear}
+use Rattle.script.specs.declared.box_calls.BoxCall.TheVariants.{Unslip, Number, Save}
 use Rattle.script.specs.declared.calls.Call.{Call}
 use Rattle.script.specs.declared.calls.Call.TheVariants.{Set, Make, Read, Ask}
 use Rattle.script.specs.declared.settings.CipherForm.TheVariants.{Cube, Words}

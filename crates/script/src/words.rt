@@ -1,8 +1,11 @@
-ghost use Rattle.std.specs.Prelude.{◌↔◌, ◌≡◌, ◌≢◌, ℕ, List, ◌≤◌, ◌<◌, length, not, position, IfSome, IsTrue, MatchOption, []};
+ghost use Rattle.std.specs.Prelude.{◌↔◌, ◌≡◌, ◌≢◌, ℕ, List, ◌≤◌, ◌<◌, length, not, position};
+ghost use Rattle.std.specs.Prelude.{IfSome, IsTrue, MatchOption, []};
 ghost use Rattle.std.specs.Char.{is_ascii_digit};
 ghost use Rattle.std.specs.List.{list_all};
 ghost use Rattle.std.specs.Str.Parse.{IsNumeral};
-ghost use Rattle.script.specs.Words.{is_blank as blank, end_of_word, start_of_word, first_word, after_word, without_blanks as bare, IsText, Only, Numeral, OnlyNumeral, Parses};
+ghost use Rattle.script.specs.Words.{is_blank as blank, end_of_word, start_of_word, first_word};
+ghost use Rattle.script.specs.Words.{after_word, without_blanks as bare, IsText, Only, Numeral};
+ghost use Rattle.script.specs.Words.{OnlyNumeral, Parses};
 
 // Words are parted by spaces and tabs.
 fn is_blank(b: u8) -> bool

@@ -35,8 +35,7 @@ impl Record {
             self.count = value.parse()?;
             return Ok(());
         }
-        let bytes =
-            hex::decode(heap, value).context("a value is not in hexadecimal digits")?;
+        let bytes = hex::decode(heap, value).context("a value is not in hexadecimal digits")?;
         match name {
             "Key" => self.key = bytes,
             "Nonce" => self.nonce = bytes,
