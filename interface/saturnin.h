@@ -23,11 +23,13 @@
 extern "C" {
 #endif
 
-/* The block of 32 bytes, in its own buffer, by a key of 32 bytes, a separator d of 0 to 15 and r of 10 to 31 super-rounds. */
-uint8_t saturnin_encrypt(const uint8_t *key, size_t key_length, uint8_t d, uint8_t r, uint8_t *block, size_t block_length);
+/* The block of 32 bytes, in its own buffer, by a key of 32 bytes, a separator of 0 to 15 and 10 to 31 super-rounds. */
+uint8_t saturnin_encrypt(const uint8_t *key, size_t key_length, uint8_t separator, uint8_t super_rounds,
+                         uint8_t *block, size_t block_length);
 
-/* And back: the only block that saturnin_encrypt takes to the given one. */
-uint8_t saturnin_decrypt(const uint8_t *key, size_t key_length, uint8_t d, uint8_t r, uint8_t *block, size_t block_length);
+/* And back: into the only block of 32 bytes that saturnin_encrypt takes to the given one. */
+uint8_t saturnin_decrypt(const uint8_t *key, size_t key_length, uint8_t separator, uint8_t super_rounds,
+                         uint8_t *block, size_t block_length);
 
 /* The digest, 32 bytes, of a message of at most 65,536 bytes. */
 uint8_t saturnin_hash(const uint8_t *message, size_t message_length, uint8_t *digest, size_t digest_length);

@@ -1,6 +1,12 @@
 #!/bin/sh
-# What the program does with what it refuses: messages, status, that the other files are still hashed, that nothing is written.
-# Run after `(cd crates/majgunter && rt run -- help)`, which builds the program, from the repository's folder.
+# What the program does with files, of which no contract can speak. It checks:
+# - what is refused: message and status, that the other files are still hashed, and that nothing is written;
+# - that a locked file is unlocked again, and that the same file locked twice with one key gives two locked files that differ, so
+#   that not every file is locked under one nonce;
+# - that OUT.part is never left, whether the writing is done or fails, that one that is there already is not touched and fails the
+#   command, and that an older OUT is replaced, and stays where the writing fails;
+# - the reports of shelves, and a script for a box.
+# Run from the repository's folder, after `rt ci` or after `(cd crates/majgunter && rt run -- help)`: both build the program.
 set -u
 program=$PWD/crates/majgunter/out/majgunter
 folder=$(mktemp -d) && cd "$folder" || exit 1
@@ -74,7 +80,63 @@ run unlock key window.locked window.again
 expect 'unlocked' 0 '' ''
 cmp window window.again || failed=1
 run lock key window twice.locked
-cmp -s window.locked twice.locked && { echo 'FAILED: two lockings are the same'; failed=1; }
+expect 'locked twice' 0 '' ''
+if cmp -s window.locked twice.locked; then
+    echo 'FAILED: two lockings of one file are the same: under one nonce'
+    failed=1
+else
+    echo 'ok: two lockings of one file differ'
+fi
+run unlock key twice.locked twice.again
+cmp window twice.again || failed=1
+
+# none FILE: there is no such file
+none() {
+    if [ -e "$1" ]; then
+        echo "FAILED: $1 is there"
+        failed=1
+    else
+        echo "ok: no $1"
+    fi
+}
+
+# same NAME FILE FILE: the two hold the same
+same() {
+    if cmp -s "$2" "$3"; then
+        echo "ok: $1"
+    else
+        echo "FAILED: $1"
+        failed=1
+    fi
+}
+
+for part in window.locked.part window.again.part twice.locked.part twice.again.part; do none $part; done
+there='the file to write: File exists (os error 17)'
+printf 'of another command' > taken.part
+cp taken.part before
+run lock key window taken
+expect 'a part that is there, to lock' 1 '' "majgunter: window: $there"
+none taken
+same 'the part is as it was' before taken.part
+cp window older
+cp taken.part older.part
+run unlock key window.locked older
+expect 'a part that is there, to unlock' 1 '' "majgunter: window.locked: $there"
+same 'the older file is as it was' window older
+same 'the part is as it was' before older.part
+rm older.part
+run lock key window older
+expect 'an older file' 0 '' ''
+run unlock key older older
+expect 'unlocked in its place' 0 '' ''
+same 'an older file is replaced' window older
+none older.part
+mkdir folder
+run lock key window folder
+expect 'a folder in the way' 1 '' 'majgunter: window: the file to write: Is a directory (os error 21)'
+none folder.part
+none folder/window
+
 run lock --nonce $nonce key full full.locked
 run lock --nonce $nonce key full again.locked
 cmp full.locked again.locked || failed=1
@@ -155,6 +217,11 @@ expect 'an empty script' 0 '' ''
 printf 'draw\n' | { script; echo $status > said; }
 status=$(cat said)
 expect 'a call before there is a box' 1 'line 1: draw: no box yet' ''
+{ head -c 65535 /dev/zero | tr '\0' x; echo; head -c 65536 /dev/zero | tr '\0' x; echo; echo draw; } | { script; echo $status > said; }
+status=$(cat said)
+expect 'lines of the greatest length and over it' 1 "line 1: $(head -c 65535 /dev/zero | tr '\0' x): no such call
+line 2: over 65535 bytes, the most that a line has
+line 3: draw: no box yet" ''
 printf 'key key\ntray tray\nmake 0102030405060708 5\ndraw\nseal 5 7 rose a window\nread 7\nsave tray.again\n' | { script; echo $status > said; }
 status=$(cat said)
 expect 'a sheet on a tray' 0 'key key: done
@@ -167,6 +234,16 @@ save tray.again: done' ''
 run shelf tray tray.again
 expect 'and in its image' 0 '4096 places, 4096 open, 1 with a record
 place 7: number 5' ''
+none tray.again.part
+cp before saved.part
+printf 'key key\ntray tray\nmake 0102030405060708 6\nsave saved\n' | { script; echo $status > said; }
+status=$(cat said)
+expect 'a part that is there, to save' 1 'key key: done
+tray tray: 4096 places
+make 0102030405060708 6: done
+line 4: save saved: File exists (os error 17)' ''
+none saved
+same 'the part is as it was' before saved.part
 
 rm -r "$folder"
 exit $failed

@@ -4,7 +4,7 @@ ghost use Rattle.archive_box.specs.Boxes.{Turns};
 ghost use Rattle.archive_box.specs.Returned.{drawn_value};
 
 use crate::boxes::ArchiveBox;
-use crate::number::Number;
+use crate::number::{Number, Once};
 use cipher::TwoWayCipher;
 use faults::{BoxCause, BoxFault};
 use shelf::Shelf;
@@ -28,6 +28,6 @@ impl<C: TwoWayCipher, S: Shelf> ArchiveBox<C, S> {
         let value = self.next;
         self.out.add(value);
         self.next += 1;
-        Ok(Number { value })
+        Ok(Number { value, once: Once })
     }
 }

@@ -16,7 +16,7 @@ impl<C: TwoWayCipher, S: Shelf> ArchiveBox<C, S> {
         ensures voids { Turns C.Cipher.forward C.TwoWayCipher.back S.Shelf.meaning
             (λ made s. Voids made s number.value result) self.old self.new }
     {
-        let Number { value } = number;
+        let value = number.spend();
         self.is_out(value)?;
         self.out.take_out(value);
         Ok(())

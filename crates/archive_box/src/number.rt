@@ -7,9 +7,14 @@ use faults::BoxFault;
 /// used twice nor let go.
 pub struct Number {
     pub(crate) value: u64,
+    pub(crate) once: Once,
     ghost from_one: { 1 ≤ value },
     ghost within: { value ≤ last_number },
 }
+
+// What stands in a number alone and derives nothing: so a number can derive neither Drop nor Clone, and
+// no other crate can make one.
+pub struct Once;
 
 /// Why a seal or a slip was refused, and the number handed back.
 pub struct Refusal {
@@ -23,5 +28,13 @@ impl Number {
         ensures { result ≡ self.now.value }
     {
         self.value
+    }
+
+    // Takes the number apart, which spends it.
+    pub(crate) fn spend(self) -> u64
+        ensures { result ≡ self.value }
+    {
+        let Number { value, once: Once } = self;
+        value
     }
 }

@@ -36,7 +36,7 @@ impl<C: TwoWayCipher, S: Shelf> ArchiveBox<C, S> {
     {
         match self.sealed(number.value, place, label, message, bytes) {
             Ok(()) => {
-                let Number { value: _ } = number;
+                number.spend();
                 Ok(())
             }
             Err(fault) => Err(Refusal {

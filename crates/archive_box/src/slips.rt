@@ -25,7 +25,7 @@ impl<C: TwoWayCipher, S: Shelf> ArchiveBox<C, S> {
     {
         match self.slipped(number.value, message, bytes) {
             Ok(()) => {
-                let Number { value: _ } = number;
+                number.spend();
                 Ok(())
             }
             Err(fault) => Err(Refusal { fault, number }),

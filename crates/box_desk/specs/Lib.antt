@@ -1,2 +1,3 @@
+pub mod Digits
 pub mod Hands
 pub mod Makings

@@ -4,7 +4,7 @@ use crate::shown::{Digits, Shown};
 use archive_box::Sheet;
 use std::fmt;
 
-// What a line was answered.
+/// What a line was answered.
 #[derive(Clone, Copy)]
 pub(crate) enum Answer {
     Done,
@@ -35,7 +35,7 @@ impl fmt::Display for Answer {
     }
 }
 
-// A sheet that was read.
+/// A sheet that was read.
 #[derive(Clone, Copy)]
 pub(crate) struct Looked<'a>(pub(crate) Sheet<'a>);
 

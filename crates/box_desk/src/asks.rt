@@ -1,12 +1,13 @@
 ghost use Rattle.std.specs.Prelude.{◌≡◌, ◌<◌, ◌++◌, ◌-◌, length, replicate, MatchOption};
+ghost use Rattle.box_desk.specs.Hands.{Spent};
 
 use crate::answers::Answer;
 use crate::hand::Hand;
 use crate::image::Image;
 use crate::problems::Problem;
 use archive_box::{ArchiveBox, Number, Refusal};
-use files::write_whole;
 use cipher::TwoWayCipher;
+use files::write_whole;
 use shelf::Shelf;
 use std::alloc::Global;
 
@@ -24,10 +25,12 @@ pub(crate) fn draw<C: TwoWayCipher, S: Shelf>(
 fn spent<C: TwoWayCipher, S: Shelf>(
     asked: &mut ArchiveBox<C, S>,
     hand: &mut Hand,
-    told: Result<Answer, Refusal>,
-) -> Result<Answer, Problem> {
-    match told {
-        Ok(answer) => Ok(answer),
+    answer: Result<Answer, Refusal>,
+) -> Result<Answer, Problem>
+    ensures { Spent answer hand.old.numbers.items hand.new.numbers.items result }
+{
+    match answer {
+        Ok(done) => Ok(done),
         Err(Refusal { fault, number }) => {
             hand.put(asked, number)?;
             Err(fault.into())
@@ -44,16 +47,17 @@ pub(crate) fn seal<C: TwoWayCipher, S: Shelf>(
     message: &[u8],
 ) -> Result<Answer, Problem> {
     let mut record = [0; 1024];
-    let told = match padded(label) {
+    let sealed = match padded(label) {
         Some(label) => asked.seal(number, place, &label, message, &mut record),
         None => asked.seal(number, place, label, message, &mut record),
     };
-    spent(asked, hand, told.map(|()| Answer::Done))
+    spent(asked, hand, sealed.map(|()| Answer::Done))
 }
 
 // A label with zero bytes up to 46; none where it has more.
 fn padded(label: &[u8]) -> Option<[u8; 46]>
-    ensures { MatchOption result (46 < length label.now) (λ l. l ≡ label.now ++ replicate (46 - length label.now) 0) }
+    ensures { MatchOption result (46 < length label.now)
+        (λ l. l ≡ label.now ++ replicate (46 - length label.now) 0) }
 {
     if label.len() > 46 {
         return None;
@@ -70,8 +74,8 @@ pub(crate) fn slip<C: TwoWayCipher, S: Shelf>(
     message: &[u8],
 ) -> Result<Answer, Problem> {
     let mut bytes = [0; 48];
-    let told = asked.slip(number, message, &mut bytes);
-    spent(asked, hand, told.map(|()| Answer::Slip(bytes)))
+    let made = asked.slip(number, message, &mut bytes);
+    spent(asked, hand, made.map(|()| Answer::Slip(bytes)))
 }
 
 pub(crate) fn unslip<C: TwoWayCipher, S: Shelf>(
@@ -79,7 +83,7 @@ pub(crate) fn unslip<C: TwoWayCipher, S: Shelf>(
     heap: Global,
     digits: &str,
 ) -> Result<Answer, Problem> {
-    let slip = hexadecimal::decode(heap, digits)?.ok_or(Problem::NoDigits)?;
+    let slip = hex::decode(heap, digits)?;
     let mut bytes = [0; 15];
     let length = asked.unslip(&slip, &mut bytes)?;
     Ok(Answer::Message { bytes, length })

@@ -1,3 +1,8 @@
+ghost use Rattle.std.specs.Prelude.{◌≡◌, ◌↔◌};
+ghost use Rattle.faults.specs.Tables.{Not};
+ghost use Rattle.script.specs.Names.{NamesCall};
+ghost use Rattle.box_desk.specs.declared.problems.Problem.TheVariants.{NoCall};
+
 use crate::answers::{Answer, Looked};
 use crate::hand::Hand;
 use crate::image::Image;
@@ -15,7 +20,8 @@ use std::io::BufRead;
 use std::{fmt, io};
 use tray::Tray;
 
-// Works boxes by a script on standard input, and prints its log. Whether every line of it was done.
+/// Works boxes by a script on standard input, and prints its log. Whether every line of it was
+/// done.
 pub fn work_script(rt: &HostRuntime) -> io::Result<bool> {
     let mut nothing = [];
     let mut none = NoBox {
@@ -63,7 +69,8 @@ impl<R: BufRead + Drop> Desk<'_, R> {
         Ok(())
     }
 
-    // Works a box on the shelf that is loaded. The next box is on the same, unless another is loaded meanwhile.
+    // Works a box on the shelf that is loaded. The next box is on the same, unless another is
+    // loaded meanwhile.
     fn work_on_shelf(&mut self, making: Making) -> io::Result<Option<Making>> {
         let mut shelf = match self.settings.loaded.take() {
             Some(loaded) => loaded,
@@ -122,7 +129,7 @@ impl<R: BufRead + Drop> Desk<'_, R> {
         let told = match Call::of(line) {
             Some(Call::Set(setting)) => self.settings.set(self.rt, setting),
             Some(Call::Make { sign, first }) => {
-                let making = self.settings.making(self.rt.alloc(), sign, first);
+                let making = self.settings.making(sign, first);
                 return self.tell_making(making);
             }
             Some(Call::Read { place }) => {
@@ -160,7 +167,8 @@ impl<R: BufRead + Drop> Desk<'_, R> {
         }
     }
 
-    // A line of the log: the line of the script and its answer; one that was no call for a box has its number before it.
+    // A line of the log: the line of the script and its answer; one that was no call for a box has
+    // its number before it.
     fn tell<T: fmt::Display + Drop>(&mut self, told: Result<T, Problem>) -> io::Result<()> {
         let rt = self.rt;
         let number = self.script.number;
@@ -194,7 +202,9 @@ fn is_silent(line: &[u8]) -> bool {
 }
 
 // Why a line is no call.
-fn misread(line: &[u8]) -> Problem {
+fn misread(line: &[u8]) -> Problem
+    ensures { (result ≡ NoCall) ↔ Not (NamesCall line.now) }
+{
     match usage_of(line) {
         Some(usage) => Problem::Misspelt(usage),
         None => Problem::NoCall,

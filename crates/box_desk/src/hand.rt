@@ -11,12 +11,13 @@ use shelf::Shelf;
 use std::alloc::{AllocError, AllocFailed, Global};
 use std::collections::VecDeque;
 
-// The numbers in hand, in the order in which they were drawn.
+/// The numbers in hand, in the order in which they were drawn.
 pub struct Hand {
     numbers: VecDeque<Number>,
 }
 
 impl Hand {
+    /// No numbers.
     pub fn new(heap: Global) -> Hand
         ensures { result.numbers.items ≡ [] }
     {
@@ -25,7 +26,7 @@ impl Hand {
         }
     }
 
-    // Puts a number in last; with no memory for it, it is ended by this box.
+    /// Puts a number in last; with no memory for it, it is ended by this box.
     pub fn put<C: TwoWayCipher, S: Shelf>(
         &mut self,
         ender: &mut ArchiveBox<C, S>,
@@ -44,18 +45,22 @@ impl Hand {
         }
     }
 
-    // The value of the first one.
+    /// The value of the first one.
     pub fn first(&self) -> Option<u64>
-        ensures { MatchOption result (self.now.numbers.items ≡ []) (λ value. (number : Number) × (rest : List Number) × (self.now.numbers.items ≡ number ∷ rest) × (number.value ≡ value)) }
+        ensures { MatchOption result (self.now.numbers.items ≡ [])
+            (λ value. (number : Number) × (rest : List Number)
+            × (self.now.numbers.items ≡ number ∷ rest) × (number.value ≡ value)) }
     {
         Some(self.numbers.front()?.value())
     }
 
-    // The latest number in hand with this value.
+    /// The latest number in hand with this value.
     pub(crate) fn take(&mut self, value: u64) -> Result<Number, Problem>
-        ensures value { MatchResult result (λ number. number.value ≡ value) (λ problem. problem ≡ NoNumber value) }
+        ensures value { MatchResult result (λ number. number.value ≡ value)
+            (λ problem. problem ≡ NoNumber value) }
         ensures others { MatchResult result
-            (λ _. (at : ℕ) × Latest value self.old.numbers.items (Some at) × (self.new.numbers.items ≡ remove self.old.numbers.items at))
+            (λ _. (at : ℕ) × Latest value self.old.numbers.items (Some at)
+            × (self.new.numbers.items ≡ remove self.old.numbers.items at))
             (λ _. Latest value self.old.numbers.items None × (self.new ≡ self.old)) }
     {
         match self.latest(value) {
@@ -82,13 +87,14 @@ impl Hand {
         latest
     }
 
+    /// Takes the first one.
     pub fn take_first(&mut self) -> Option<Number>
         ensures { self.old.numbers.items ≡ option_to_list result ++ self.new.numbers.items }
     {
         self.numbers.pop_front()
     }
 
-    // Ends each number in hand, by a box that it may not be out in: it is ended all the same.
+    /// Ends each number in hand, by a box that it may not be out in: it is ended all the same.
     pub fn end<C: TwoWayCipher, S: Shelf>(self, ender: &mut ArchiveBox<C, S>) {
         let Hand { mut numbers } = self;
         while let Some(number) = numbers.pop_front() {

@@ -4,10 +4,11 @@ use plate::Plate;
 use shelf::Shelf;
 use tray::Tray;
 
-// A shelf in one piece of memory, of which an image can be saved.
+/// A shelf in one piece of memory, of which an image can be saved.
 pub trait Image: Shelf {
     ghost bytes: { Self → List ℕ };
 
+    /// The bytes of the memory, spare ones included.
     fn image(&self) -> &[u8]
         ensures { result.now ≡ bytes self.now };
 }

@@ -1,26 +1,35 @@
 ghost use Rattle.std.specs.Prelude.{◌≡◌};
 ghost use Rattle.faults.specs.Causes.{from_shelf};
+ghost use Rattle.box_desk.specs.Digits.{decoding_problem};
 ghost use Rattle.box_desk.specs.declared.problems.Problem.TheVariants.{Refused, Unread as UnreadProblem, Memory};
 
 use faults::{BoxFault, ShelfFault};
 use files::Unread;
+use hex::FromHexError;
 use std::alloc::AllocError;
 use std::{fmt, io};
 
-// Why a line was not done.
+/// Why a line was not done.
 #[derive(Drop)]
 pub(crate) enum Problem {
+    /// its first word names no call
     NoCall,
-    // how the call is to be written
+    /// how the call that it names is to be written
     Misspelt(&'static str),
+    /// a line of more than 65,535 bytes
     TooLong,
+    /// a slip that is not in pairs of hexadecimal digits
     NoDigits,
+    /// a sign that is not 16 hexadecimal digits
     NoSign,
+    /// a number that is not in hand
     NoNumber(u64),
     NoKey,
     NoShelf,
     NoBox,
+    /// a record that was read and holds no sheet
     NoSheet,
+    /// a key file that has not 32 bytes
     KeyLength,
     Unread(Unread),
     Unwritten(io::Error),
@@ -57,6 +66,17 @@ impl From<AllocError> for Problem {
 
     fn from(_e: AllocError) -> Problem {
         Problem::Memory
+    }
+}
+
+impl From<FromHexError> for Problem {
+    ghost from_gives = { λ e r. r ≡ decoding_problem e };
+
+    fn from(e: FromHexError) -> Problem {
+        match e {
+            FromHexError::OutOfMemory => Problem::Memory,
+            _ => Problem::NoDigits,
+        }
     }
 }
 

@@ -5,7 +5,7 @@ use std::io::{BufRead, Read};
 // The most bytes that are taken for a line: 65,535 and its end.
 const ROOM: u64 = 65_536;
 
-// What comes next in a script.
+/// What comes next in a script.
 #[derive(Clone, Copy)]
 pub(crate) enum Next {
     Line,
@@ -13,7 +13,7 @@ pub(crate) enum Next {
     End,
 }
 
-// A script, of which one line at a time is held.
+/// A script, of which one line at a time is held.
 #[derive(Drop)]
 pub(crate) struct Script<R: BufRead + Drop> {
     reader: R,
@@ -30,7 +30,8 @@ impl<R: BufRead + Drop> Script<R> {
         }
     }
 
-    // Goes on to the next line. One that is too long is passed over, and what it begins with is held.
+    /// Goes on to the next line. One that is too long is passed over, and what it begins with is
+    /// held.
     pub(crate) fn go_on(&mut self) -> io::Result<Next> {
         self.line.clear();
         let mut limited = self.reader.by_ref().take(ROOM);
@@ -46,7 +47,7 @@ impl<R: BufRead + Drop> Script<R> {
         Ok(Next::Line)
     }
 
-    // The line that is held, without its end.
+    /// The line that is held, without its end.
     pub(crate) fn line(&self) -> &[u8] {
         match self.line.as_slice() {
             [line @ .., b'\r', b'\n'] | [line @ .., b'\n'] => line,

@@ -5,20 +5,21 @@ ghost use Rattle.box_desk.specs.Makings.{Makes};
 use crate::answers::Answer;
 use crate::problems::Problem;
 use files::{read_limited, read_plate, read_tray};
+use hex::FromHex;
 use plate::Plate;
 use script::{CipherForm, Setting};
 use shelf::Shelf;
 use std::alloc::Global;
 use tray::Tray;
 
-// The kinds of shelves; of a plate also the count of its places.
+/// The kinds of shelves; of a plate also the count of its places.
 #[derive(Clone, Copy)]
 pub(crate) enum Kind {
     Tray,
     Plate(u32),
 }
 
-// The image of a shelf.
+/// The image of a shelf.
 #[derive(Drop)]
 pub(crate) struct Loaded {
     pub(crate) kind: Kind,
@@ -26,7 +27,7 @@ pub(crate) struct Loaded {
 }
 
 impl Loaded {
-    // A tray of no places.
+    /// A tray of no places.
     pub(crate) fn empty(heap: Global) -> Loaded {
         Loaded {
             kind: Kind::Tray,
@@ -35,7 +36,7 @@ impl Loaded {
     }
 }
 
-// What a box is made with, beside its shelf.
+/// What a box is made with, beside its shelf.
 #[derive(Clone, Copy)]
 pub(crate) struct Making {
     pub(crate) key: [u8; 32],
@@ -44,7 +45,8 @@ pub(crate) struct Making {
     pub(crate) form: CipherForm,
 }
 
-// What the next box is made with. While a box is at work, its shelf stands in it, and only a shelf loaded since is here.
+/// What the next box is made with. While a box is at work, its shelf stands in it, and only a shelf
+/// loaded since is here.
 #[derive(Drop)]
 pub(crate) struct Settings {
     key: Option<[u8; 32]>,
@@ -98,18 +100,20 @@ impl Settings {
     }
 
     fn load(&mut self, kind: Kind, image: Vec<u8>)
-        ensures { self.new ≡ record self.old { loaded = Some (record { kind = kind; image = image }); has_shelf = true } }
+        ensures { self.new ≡ record self.old {
+          loaded = Some (record { kind = kind; image = image });
+          has_shelf = true;
+        } }
     {
         self.loaded = Some(Loaded { kind, image });
         self.has_shelf = true;
     }
 
-    // What a box with this sign and first number is made with, if all is there.
-    pub(crate) fn making(&self, heap: Global, sign: &str, first: u64) -> Result<Making, Problem>
+    /// What a box with this sign and first number is made with, if all is there.
+    pub(crate) fn making(&self, sign: &str, first: u64) -> Result<Making, Problem>
         ensures { Makes sign.now first self.now result }
     {
-        let bytes = hexadecimal::decode(heap, sign)?.ok_or(Problem::NoSign)?;
-        let Ok(sign) = bytes.as_slice().try_into() else {
+        let Ok(sign) = <[u8; 8]>::from_hex(sign) else {
             return Err(Problem::NoSign);
         };
         let key = self.key.ok_or(Problem::NoKey)?;

@@ -1,7 +1,7 @@
 use std::fmt;
 use std::fmt::Write;
 
-// Bytes as a log shows them: what is no printable ASCII as `\xNN`, and none at all as `-`.
+/// Bytes as a log shows them: what is no printable ASCII as `\xNN`, and none at all as `-`.
 #[derive(Clone, Copy)]
 pub(crate) struct Shown<'a>(pub(crate) &'a [u8]);
 
@@ -20,7 +20,7 @@ impl fmt::Display for Shown<'_> {
     }
 }
 
-// Bytes in hexadecimal digits.
+/// Bytes in hexadecimal digits.
 #[derive(Clone, Copy)]
 pub(crate) struct Digits<'a>(pub(crate) &'a [u8]);
 

@@ -9,9 +9,9 @@ use saturnin_words::WordForm;
 use script::BoxCall;
 use tray::Tray;
 
-// Who answers the calls on a box.
+/// Who answers the calls on a box.
 pub(crate) trait Worker {
-    // Numbers come into the hand and leave it.
+    /// Numbers come into the hand and leave it.
     fn answer(
         &mut self,
         rt: &HostRuntime,
@@ -19,14 +19,14 @@ pub(crate) trait Worker {
         hand: &mut Hand,
     ) -> Result<Answer, Problem>;
 
-    // Leaves the sheet of the place in the record buffer.
+    /// Leaves the sheet of the place in the record buffer.
     fn read(&self, place: u32, record: &mut [u8]) -> Result<(), Problem>;
 
-    // Ends a number.
+    /// Ends a number.
     fn end(&mut self, number: Number) -> Result<(), Problem>;
 }
 
-// Who answers before a box is made: it has one of its own only to end numbers with.
+/// Who answers before a box is made: it has one of its own only to end numbers with.
 #[derive(Drop)]
 pub(crate) struct NoBox<'a> {
     pub(crate) ender: ArchiveBox<WordForm, Tray<'a>>,

@@ -1,17 +1,19 @@
 -- Each row of a call's table applies or does not, whatever was handed in and whatever the box is.
-use Rattle.std.proofs.Common.{◌≡◌, ℕ, ◌+◌, ◌-◌, List, length, take, drop, sym, refl, ap, ◌∙◌, subst, arith}
+use Rattle.std.proofs.Common.{◌≡◌, ℕ, ◌+◌, ◌-◌, List, length, take, drop, sym, refl, ap, ◌∙◌, subst}
+use Rattle.std.proofs.Common.{arith}
 use mathlib.Core.List.{List-discrete}
 use native.Mathlib.Decide.{ℕ_discrete, dec_le, dec_lt}
 use Rattle.std.proofs.lemmas.List.{take_at, drop_at}
 use Rattle.octets.specs.Octets.{zeros, part}
 use Rattle.modes.specs.Bytes.{padded}
 use Rattle.modes.specs.Short.{BlockHolds}
-use Rattle.shelf.specs.Meaning.{Open}
+use Rattle.shelf.specs.Meaning.{Open, open_at}
 use Rattle.records.specs.Records.{empty, length_in, tag_in, WellFormed}
 use Rattle.records.specs.Sheets.{right_tag}
 use Rattle.numbers.specs.Counting.{count}
-use Rattle.box_model.specs.States.{Made, State, last_number}
-use Rattle.box_model.specs.Calls.{not_out, draw_table, seal_table, slip_table, void_table, clear_table, read_table, unslip_table, number_table}
+use Rattle.box_model.specs.States.{Made, State}
+use Rattle.box_model.specs.Calls.{not_out, draw_table, seal_table, slip_table, void_table}
+use Rattle.box_model.specs.Calls.{clear_table, read_table, unslip_table, number_table}
 use Rattle.box_model.proofs.Tables.{Decided, dec_not, dec_both, dec_true, dec_below}
 
 pub same_list : (xs ys : List ℕ) → Dec (xs ≡ ys)
@@ -29,7 +31,7 @@ module _ (made : Made) (bytes : List ℕ) where
 
   pub holds_or_not : Dec ((message : List ℕ) × Holds message)
   holds_or_not =
-      elim (dec_below (λ k. Holds (front k)) (λ k. dec_both (dec_le (length (front k)) 15) (same_list block _)) 16) [
+      elim (dec_below (λ k. Holds (front k)) front_holds 16) [
         | yes h ↦ yes (front h.0, h.2)
         | no n ↦ no (λ h. n (length h.0, omega (arith, h.1.0), at_front h))
       ]
@@ -39,6 +41,9 @@ module _ (made : Made) (bytes : List ℕ) where
 
       front : ℕ → List ℕ
       front k = take k (drop (length (take 16 bytes)) block)
+
+      front_holds : (k : ℕ) → Dec (Holds (front k))
+      front_holds k = dec_both (dec_le (length (front k)) 15) (same_list block _)
 
       at_front : (h : (message : List ℕ) × Holds message) → Holds (front (length h.0))
       at_front h =
@@ -57,24 +62,25 @@ module _ (made : Made) (s : State) where
   out_or_not number = ℕ_discrete (count number s.out) 0
 
   open_or_not : (place : ℕ) → Dec (Open s.shelf place)
-  open_or_not place = dec_true (s.shelf.opens place)
+  open_or_not place = dec_true (open_at s.shelf place)
 
   pub draw_decided : Decided (draw_table made s)
-  draw_decided = (dec_lt last_number s.next, (dec_le 16 (length s.out), tt))
+  draw_decided = (dec_lt _ s.next, (dec_le _ (length s.out), tt))
 
   pub seal_decided : (number place : ℕ) (label message buffer : List ℕ)
       → Decided (seal_table made s number place label message buffer)
   seal_decided number place label message buffer = (
-    dec_not (dec_both (ℕ_discrete (length label) 46) (ℕ_discrete (length buffer) 1024)),
+    dec_not (dec_both (ℕ_discrete (length label) _) (ℕ_discrete (length buffer) _)),
     (
-      dec_lt 928 (length message),
+      dec_lt _ (length message),
       (dec_le s.shelf.count place, (dec_not (open_or_not place), (out_or_not number, tt))),
     ),
   )
 
-  pub slip_decided : (number : ℕ) (message buffer : List ℕ) → Decided (slip_table made s number message buffer)
+  pub slip_decided : (number : ℕ) (message buffer : List ℕ)
+      → Decided (slip_table made s number message buffer)
   slip_decided number message buffer =
-      (dec_not (ℕ_discrete (length buffer) 48), (dec_lt 15 (length message), (out_or_not number, tt)))
+      (dec_not (ℕ_discrete (length buffer) _), (dec_lt _ (length message), (out_or_not number, tt)))
 
   pub void_decided : (number : ℕ) → Decided (void_table made s number)
   void_decided number = (out_or_not number, tt)
@@ -84,15 +90,16 @@ module _ (made : Made) (s : State) where
 
   pub read_decided : (place : ℕ) (buffer : List ℕ) → Decided (read_table made s place buffer)
   read_decided place buffer =
-      let bytes : List ℕ = s.shelf.bytes place in (
-        dec_not (ℕ_discrete (length buffer) 1024),
+      let bytes : List ℕ = s.shelf.bytes place in
+      let right : List ℕ = right_tag made.forward made.key place bytes in (
+        dec_not (ℕ_discrete (length buffer) _),
         (
           dec_le s.shelf.count place,
           (
             same_list bytes empty,
             (
               dec_not (well_formed_or_not bytes),
-              (dec_not (same_list (tag_in bytes) (right_tag made.forward made.key place bytes)), tt),
+              (dec_not (same_list (tag_in bytes) right), tt),
             ),
           ),
         ),
@@ -100,7 +107,7 @@ module _ (made : Made) (s : State) where
 
   pub unslip_decided : (bytes buffer : List ℕ) → Decided (unslip_table made s bytes buffer)
   unslip_decided bytes buffer = (
-    dec_not (dec_both (ℕ_discrete (length bytes) 48) (ℕ_discrete (length buffer) 15)),
+    dec_not (dec_both (ℕ_discrete (length bytes) _) (ℕ_discrete (length buffer) _)),
     (dec_not (holds_or_not made bytes), tt),
   )
 

@@ -1,5 +1,6 @@
 pub mod Tables
 pub mod Decisions
+pub mod Possible
 pub mod Turns
 pub mod Apart
 pub mod Numbers
@@ -8,4 +9,3 @@ pub mod Reading
 pub mod Places
 pub mod Slips
 pub mod Keeping
-pub mod Possible

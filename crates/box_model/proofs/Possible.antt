@@ -1,5 +1,6 @@
 -- Every call has an answer.
-use Rattle.std.proofs.Common.{◌≡◌, ℕ, ◌+◌, cond, eqb, List, [], ◌∷◌, ◌++◌, length, take, drop, Some, None, Ok, Err, Option, Result, refl}
+use Rattle.std.proofs.Common.{◌≡◌, ℕ, ◌+◌, cond, eqb, List, [], ◌∷◌, ◌++◌, length, take, drop, Some}
+use Rattle.std.proofs.Common.{None, Ok, Err, Option, Result, refl}
 use Rattle.std.proofs.lemmas.Bool.{eq-eqb, ne_eqb, cond-true, cond-false}
 use Rattle.faults.specs.Causes.{left}
 use Rattle.faults.specs.Tables.{Not, Clear}
@@ -10,10 +11,14 @@ use Rattle.records.specs.Records.{empty, number_in, length_in}
 use Rattle.records.specs.Sheets.{sheet, slip, opened}
 use Rattle.numbers.specs.Counting.{without}
 use Rattle.box_model.specs.States.{Made, State}
-use Rattle.box_model.specs.Calls.{Done, Draws, Seals, Slips, Voids, Clears, Reads, Unslips, TellsNumber, draw_table, seal_table, slip_table, void_table, clear_table, read_table, unslip_table, number_table}
+use Rattle.box_model.specs.Calls.{Done, Draws, Seals, Slips, Voids, Clears, Reads, Unslips}
+use Rattle.box_model.specs.Calls.{TellsNumber, draw_table, seal_table, slip_table, void_table}
+use Rattle.box_model.specs.Calls.{clear_table, read_table, unslip_table, number_table}
 use Rattle.box_model.specs.Answers.{AlwaysAnswerable}
 use Rattle.box_model.proofs.Tables.{outcome}
-use Rattle.box_model.proofs.Decisions.{same_list, holds_or_not, draw_decided, seal_decided, slip_decided, void_decided, clear_decided, read_decided, unslip_decided, number_decided}
+use Rattle.box_model.proofs.Decisions.{same_list, holds_or_not, draw_decided, seal_decided}
+use Rattle.box_model.proofs.Decisions.{slip_decided, void_decided, clear_decided, read_decided}
+use Rattle.box_model.proofs.Decisions.{unslip_decided, number_decided}
 
 -- a shelf after a put that shuts nothing
 put_at : ℕ → List ℕ → Meaning → Meaning
@@ -32,9 +37,13 @@ module _ (made : Made) (s : State) where
   draw_can : (x : Result ℕ BoxFault × State) × Draws made s x.0 x.1
   draw_can =
       outcome {X = Result ℕ BoxFault × State} (λ x f. (x.0 ≡ Err f) × (x.1 ≡ s))
-      (λ x. (x.0 ≡ Ok s.next) × (x.1 ≡ record s { next = s.next + 1; out = s.out ++ (s.next ∷ []) }))
+      (λ x. (x.0 ≡ Ok s.next)
+      × (x.1 ≡ record s { next = s.next + 1; out = s.out ++ (s.next ∷ []) }))
       (λ f. (Err f, s)) (λ f. (refl, refl)) (draw_table made s) (draw_decided made s)
-      (λ c. ((Ok s.next, record s { next = s.next + 1; out = s.out ++ (s.next ∷ []) }), (refl, refl)))
+      (λ c. (
+        (Ok s.next, record s { next = s.next + 1; out = s.out ++ (s.next ∷ []) }),
+        (refl, refl),
+      ))
 
   seal_can : (n p : ℕ) (label message buffer : List ℕ)
       → (x : Done × List ℕ × State) × Seals made s n p label message buffer x.0 x.1 x.2
@@ -43,7 +52,8 @@ module _ (made : Made) (s : State) where
       let bytes : List ℕ = sheet made.forward made.key made.sign n p label message in
       outcome {X = Done × List ℕ × State} (λ x f. (x.0 ≡ Err f) × (x.2 ≡ s) × (x.1 ≡ buffer))
       (λ x. (x.0 ≡ Ok tt) × (x.1 ≡ sheet made.forward made.key made.sign n p label message)
-      × Placed s.shelf p x.1 x.2.shelf × (x.2 ≡ record s { shelf = x.2.shelf; out = without n s.out }))
+      × Placed s.shelf p x.1 x.2.shelf
+      × (x.2 ≡ record s { shelf = x.2.shelf; out = without n s.out }))
       (λ f. (Err f, buffer, s)) (λ f. (refl, refl, refl))
       (seal_table made s n p label message buffer) (seal_decided made s n p label message buffer)
       (λ c. (
@@ -74,28 +84,42 @@ module _ (made : Made) (s : State) where
   clear_can : (p : ℕ) → (x : Done × State) × Clears made s p x.0 x.1
   clear_can p =
       outcome {X = Done × State} (λ x f. (x.0 ≡ Err f) × (x.1 ≡ s))
-      (λ x. (x.0 ≡ Ok tt) × Placed s.shelf p empty x.1.shelf × (x.1 ≡ record s { shelf = x.1.shelf }))
+      (λ x. (x.0 ≡ Ok tt) × Placed s.shelf p empty x.1.shelf
+      × (x.1 ≡ record s { shelf = x.1.shelf }))
       (λ f. (Err f, s)) (λ f. (refl, refl)) (clear_table made s p) (clear_decided made s p)
-      (λ c. ((Ok tt, record s { shelf = put_at p empty s.shelf }), (refl, placed_at p empty s.shelf, refl)))
+      (λ c. (
+        (Ok tt, record s { shelf = put_at p empty s.shelf }),
+        (refl, placed_at p empty s.shelf, refl),
+      ))
 
-  read_can : (p : ℕ) (buffer : List ℕ) → (x : Result (ℕ × ℕ) BoxFault × List ℕ) × Reads made s p buffer x.0 x.1
+  read_can : (p : ℕ) (buffer : List ℕ) → (x : Result (ℕ × ℕ) BoxFault × List ℕ)
+      × Reads made s p buffer x.0 x.1
   read_can p buffer =
       let bytes : List ℕ = s.shelf.bytes p in
       outcome {X = Result (ℕ × ℕ) BoxFault × List ℕ} (λ x f. (x.0 ≡ Err f) × (x.1 ≡ left f buffer))
-      (λ x. (x.0 ≡ Ok (number_in bytes, length_in bytes)) × (x.1 ≡ opened made.forward made.key bytes))
-      (λ f. (Err f, left f buffer)) (λ f. (refl, refl)) (read_table made s p buffer) (read_decided made s p buffer)
-      (λ c. ((Ok (number_in bytes, length_in bytes), opened made.forward made.key bytes), (refl, refl)))
+      (λ x. (x.0 ≡ Ok (number_in bytes, length_in bytes))
+      × (x.1 ≡ opened made.forward made.key bytes))
+      (λ f. (Err f, left f buffer)) (λ f. (refl, refl))
+      (read_table made s p buffer) (read_decided made s p buffer)
+      (λ c. (
+        (Ok (number_in bytes, length_in bytes), opened made.forward made.key bytes),
+        (refl, refl),
+      ))
 
-  unslip_can : (bytes buffer : List ℕ) → (x : Result ℕ BoxFault × List ℕ) × Unslips made s bytes buffer x.0 x.1
+  unslip_can : (bytes buffer : List ℕ) → (x : Result ℕ BoxFault × List ℕ)
+      × Unslips made s bytes buffer x.0 x.1
   unslip_can bytes buffer =
       outcome {X = Result ℕ BoxFault × List ℕ} (λ x f. (x.0 ≡ Err f) × (x.1 ≡ left f buffer))
-      (λ x. (message : List ℕ) × BlockHolds made.back made.key (take 16 bytes) (drop 16 bytes) message
+      (λ x. (message : List ℕ)
+      × BlockHolds made.back made.key (take 16 bytes) (drop 16 bytes) message
       × (x.0 ≡ Ok (length message)) × (x.1 ≡ filled message))
       (λ f. (Err f, left f buffer)) (λ f. (refl, refl))
-      (unslip_table made s bytes buffer) (unslip_decided made s bytes buffer) (λ c. by c (holds_or_not made bytes))
+      (unslip_table made s bytes buffer) (unslip_decided made s bytes buffer)
+      (λ c. by c (holds_or_not made bytes))
     where
       by : Clear (unslip_table made s bytes buffer)
-          → Dec ((message : List ℕ) × BlockHolds made.back made.key (take 16 bytes) (drop 16 bytes) message)
+          → Dec ((message : List ℕ)
+          × BlockHolds made.back made.key (take 16 bytes) (drop 16 bytes) message)
           → (x : Result ℕ BoxFault × List ℕ) × ((message : List ℕ)
           × BlockHolds made.back made.key (take 16 bytes) (drop 16 bytes) message
           × (x.0 ≡ Ok (length message)) × (x.1 ≡ filled message))
@@ -116,8 +140,10 @@ module _ (made : Made) (s : State) where
 pub answerable : AlwaysAnswerable
 answerable made s = record {
   draws = let x = draw_can made s in (x.0.0, x.0.1, x.1);
-  seals = λ n p label message buffer. let x = seal_can made s n p label message buffer in (x.0.0, x.0.1, x.0.2, x.1);
-  slips = λ n message buffer. let x = slip_can made s n message buffer in (x.0.0, x.0.1, x.0.2, x.1);
+  seals = λ n p label message buffer.
+      let x = seal_can made s n p label message buffer in (x.0.0, x.0.1, x.0.2, x.1);
+  slips = λ n message buffer.
+      let x = slip_can made s n message buffer in (x.0.0, x.0.1, x.0.2, x.1);
   voids = λ n. let x = void_can made s n in (x.0.0, x.0.1, x.1);
   clears = λ p. let x = clear_can made s p in (x.0.0, x.0.1, x.1);
   reads = λ p buffer. let x = read_can made s p buffer in (x.0.0, x.0.1, x.1);

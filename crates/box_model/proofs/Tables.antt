@@ -1,5 +1,6 @@
 -- Tables whose rows are decided.
-use Rattle.std.proofs.Common.{◌≡◌, ℕ, zero, suc, ◌<◌, Bool, true, false, ◌⊎◌, [], ◌∷◌, refl, subst, inl, inr, ⊎_elim, arith}
+use Rattle.std.proofs.Common.{◌≡◌, ℕ, zero, suc, ◌<◌, Bool, true, false, ◌⊎◌, [], ◌∷◌, refl, subst}
+use Rattle.std.proofs.Common.{inl, inr, ⊎_elim, arith}
 use Rattle.std.proofs.lemmas.Bool.{false≢true, cases_eq}
 use Rattle.faults.specs.Tables.{Table, By, Not, Clear}
 
@@ -28,7 +29,8 @@ outcome refused done refuse r [] decided d = d tt
 outcome {Fault} {X} refused done refuse r (row ∷ rows) decided d =
     elim decided.0 [
       | yes a ↦ (refuse row.1, (λ h. r row.1, λ n. absurd (n a)))
-      | no n ↦ let more : (x : X) × By rows (refused x) (done x) = outcome refused done refuse r rows decided.1 (λ c. d (n, c)) in
+      | no n ↦ let more : (x : X) × By rows (refused x) (done x) =
+          outcome refused done refuse r rows decided.1 (λ c. d (n, c)) in
           (more.0, (λ h. absurd (n h), λ h. more.1))
     ]
 
@@ -52,6 +54,8 @@ dec_below P d (suc n) =
       | yes h ↦ yes (h.0, omega (arith, h.1), h.2)
       | no m ↦ elim (d n) [
         | yes p ↦ yes (n, omega arith, p)
-        | no q ↦ no (λ h. ⊎_elim (λ e. q (subst P e h.2)) (λ ne. m (h.0, omega (arith, h.1), h.2)) (cases_eq h.0 n))
+        | no q ↦ no (λ h.
+            ⊎_elim (λ e. q (subst P e h.2)) (λ d. m (h.0, omega (arith, h.1), h.2))
+            (cases_eq h.0 n))
       ]
     ]

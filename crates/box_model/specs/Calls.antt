@@ -1,10 +1,13 @@
--- The calls of a box: the table of each, its answer, what its buffers hold after it, and what it makes of the box.
-use Rattle.std.specs.Prelude.{◌≡◌, ℕ, ◌+◌, ◌<◌, ◌≤◌, List, [], ◌∷◌, ◌++◌, length, take, drop, Some, None, Ok, Err, Option, Result}
+-- The calls of a box: the table of each, its answer, what its buffers hold after it, and what it
+-- makes of the box.
+use Rattle.std.specs.Prelude.{◌≡◌, ℕ, ◌+◌, ◌<◌, ◌≤◌, List, [], ◌∷◌, ◌++◌, length, take, drop, Some}
+use Rattle.std.specs.Prelude.{None, Ok, Err, Option, Result}
 use Rattle.faults.specs.Causes.{box_fault, left}
 use Rattle.faults.specs.Tables.{Table, By, Not}
 use Rattle.faults.specs.declared.ModeCause.TheVariants.{Tag, Padding}
 use Rattle.faults.specs.declared.ShelfCause.TheVariants.{Outside, Shut}
-use Rattle.faults.specs.declared.BoxCause.TheVariants.{Mode, Shelf, Length, Limit, NotOut, UsedUp, SixteenOut, Empty, Filling}
+use Rattle.faults.specs.declared.BoxCause.TheVariants.{Mode, Shelf, Length, Limit, NotOut, UsedUp}
+use Rattle.faults.specs.declared.BoxCause.TheVariants.{SixteenOut, Empty, Filling}
 use Rattle.faults.specs.declared.BoxFault.{BoxFault}
 use Rattle.modes.specs.Short.{BlockHolds, filled}
 use Rattle.shelf.specs.Meaning.{Open, Placed}
@@ -50,7 +53,8 @@ module _ (made : Made) (s : State) where
       ∷ (not_out number, box_fault (Some place) NotOut)
       ∷ []
 
-  abbrev pub Seals : (number place : ℕ) (label message buffer : List ℕ) (answer : Done) (buffer' : List ℕ) (t : State) → Type 0
+  abbrev pub Seals : (number place : ℕ) (label message buffer : List ℕ)
+      (answer : Done) (buffer' : List ℕ) (t : State) → Type 0
   Seals number place label message buffer answer buffer' t =
       By (seal_table number place label message buffer)
       (λ fault. (answer ≡ Err fault) × (t ≡ s) × (buffer' ≡ buffer))
@@ -67,7 +71,8 @@ module _ (made : Made) (s : State) where
       ∷ (not_out number, box_fault None NotOut)
       ∷ []
 
-  abbrev pub Slips : (number : ℕ) (message buffer : List ℕ) (answer : Done) (buffer' : List ℕ) (t : State) → Type 0
+  abbrev pub Slips : (number : ℕ) (message buffer : List ℕ)
+      (answer : Done) (buffer' : List ℕ) (t : State) → Type 0
   Slips number message buffer answer buffer' t =
       By (slip_table number message buffer)
       (λ fault. (answer ≡ Err fault) × (t ≡ s) × (buffer' ≡ buffer))
@@ -96,17 +101,22 @@ module _ (made : Made) (s : State) where
       By (clear_table place) (λ fault. (answer ≡ Err fault) × (t ≡ s))
       ((answer ≡ Ok tt) × Placed s.shelf place empty t.shelf × (t ≡ record s { shelf = t.shelf }))
 
-  -- a read gives number and length, and leaves the record with the message in place of its ciphertext
+  -- a read gives number and length, and leaves the record with the message in place of its
+  -- ciphertext
   abbrev pub read_table : (place : ℕ) (buffer : List ℕ) → Table BoxFault
   read_table place buffer =
       (Not (length buffer ≡ 1024), box_fault (Some place) Length)
       ∷ (outside place, box_fault (Some place) (Shelf Outside))
       ∷ (in_place place ≡ empty, box_fault (Some place) Empty)
       ∷ (Not (WellFormed (in_place place)), box_fault (Some place) Filling)
-      ∷ (Not (tag_in (in_place place) ≡ right_tag made.forward made.key place (in_place place)), box_fault (Some place) (Mode Tag))
+      ∷ (
+        Not (tag_in (in_place place) ≡ right_tag made.forward made.key place (in_place place)),
+        box_fault (Some place) (Mode Tag),
+      )
       ∷ []
 
-  abbrev pub Reads : (place : ℕ) (buffer : List ℕ) (answer : Result (ℕ × ℕ) BoxFault) (buffer' : List ℕ) → Type 0
+  abbrev pub Reads : (place : ℕ) (buffer : List ℕ)
+      (answer : Result (ℕ × ℕ) BoxFault) (buffer' : List ℕ) → Type 0
   Reads place buffer answer buffer' =
       By (read_table place buffer)
       (λ fault. (answer ≡ Err fault) × (buffer' ≡ left fault buffer))
@@ -117,10 +127,15 @@ module _ (made : Made) (s : State) where
   abbrev pub unslip_table : (bytes buffer : List ℕ) → Table BoxFault
   unslip_table bytes buffer =
       (Not ((length bytes ≡ 48) × (length buffer ≡ 15)), box_fault None Length)
-      ∷ (Not ((message : List ℕ) × BlockHolds made.back made.key (take 16 bytes) (drop 16 bytes) message), box_fault None (Mode Padding))
+      ∷ (
+        Not ((message : List ℕ)
+            × BlockHolds made.back made.key (take 16 bytes) (drop 16 bytes) message),
+        box_fault None (Mode Padding),
+      )
       ∷ []
 
-  abbrev pub Unslips : (bytes buffer : List ℕ) (answer : Result ℕ BoxFault) (buffer' : List ℕ) → Type 0
+  abbrev pub Unslips : (bytes buffer : List ℕ)
+      (answer : Result ℕ BoxFault) (buffer' : List ℕ) → Type 0
   Unslips bytes buffer answer buffer' =
       By (unslip_table bytes buffer)
       (λ fault. (answer ≡ Err fault) × (buffer' ≡ left fault buffer))
@@ -129,7 +144,8 @@ module _ (made : Made) (s : State) where
       × (answer ≡ Ok (length message))
       × (buffer' ≡ filled message))
 
-  -- the number at a place, which is absent where the place is empty; it changes nothing, and is no line of a log
+  -- the number at a place, which is absent where the place is empty; it changes nothing, and is no
+  -- line of a log
   abbrev pub number_table : (place : ℕ) → Table BoxFault
   number_table place = (outside place, box_fault (Some place) (Shelf Outside)) ∷ []
 

@@ -1,5 +1,5 @@
--- What the lines of a log come to: what is drawn, sealed, slipped, voided and cleared, in order. A refused line, and one that
--- only asks, comes to nothing.
+-- What the lines of a log come to: what is drawn, sealed, slipped, voided and cleared, in order. A
+-- refused line, and one that only asks, comes to nothing.
 use Rattle.std.specs.Prelude.{ℕ, cond, List, [], ◌∷◌, Some, None, Ok, Err, Option, fold, ◌==◌}
 use Rattle.std.specs.List.{flat_map}
 use Rattle.box_model.specs.Logs.{Line, draw, seal, slips, void, clear, read, unslip}
@@ -43,7 +43,8 @@ ended_by (slipped n m b) = n ∷ []
 ended_by (voided n) = n ∷ []
 ended_by (cleared p) = []
 
--- the numbers that done draws of a log answered, and those that its done seals, slips and voids name, in order
+-- the numbers that done draws of a log answered, and those that its done seals, slips and voids
+-- name, in order
 abbrev pub drawn : List Line → List ℕ
 drawn lines = flat_map drawn_by (all_effects lines)
 

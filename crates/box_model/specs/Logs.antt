@@ -8,7 +8,8 @@ use Rattle.box_model.specs.Calls.{Done, Draws, Seals, Slips, Voids, Clears, Read
 -- one call: what was handed in, the answer, and the buffer that came back
 pub data Line : Type 0 where
   draw : (answer : Result ℕ BoxFault) → Line
-  seal : (number place : ℕ) (label message buffer : List ℕ) (answer : Done) (buffer' : List ℕ) → Line
+  seal : (number place : ℕ) (label message buffer : List ℕ)
+      (answer : Done) (buffer' : List ℕ) → Line
   slips : (number : ℕ) (message buffer : List ℕ) (answer : Done) (buffer' : List ℕ) → Line
   void : (number : ℕ) (answer : Done) → Line
   clear : (place : ℕ) (answer : Done) → Line
@@ -38,4 +39,5 @@ Handed (unslip x b a b') = Unit {0}
 -- a log of a box: its lines, oldest first, from the state s to the state t
 pub data Log (made : Made) (s : State) : List Line → State → Type 0 where
   nothing_yet : Log made s [] s
-  and_then : {lines : List Line} {t u : State} (l : Line) → Log made s lines t → Handed l → Does made t l u → Log made s (lines ++ (l ∷ [])) u
+  and_then : {lines : List Line} {t u : State} (l : Line)
+      → Log made s lines t → Handed l → Does made t l u → Log made s (lines ++ (l ∷ [])) u

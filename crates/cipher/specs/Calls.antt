@@ -16,7 +16,8 @@ call_table key D R block =
     (Not ((key ≡ 32) × (block ≡ 32)), mode_fault Length) ∷ parameter_table D R
 
 -- a call of the block function f, by its answer and by what the block's buffer holds after it
-abbrev pub Calls : BlockFunction → (key : List ℕ) (D R : ℕ) (block : List ℕ) → Result (Unit {0}) ModeFault → List ℕ → Type 0
+abbrev pub Calls : BlockFunction → (key : List ℕ) (D R : ℕ) (block : List ℕ)
+    → Result (Unit {0}) ModeFault → (after : List ℕ) → Type 0
 Calls f key D R block answer after =
     By (call_table (length key) D R (length block))
     (λ fault. (answer ≡ Err fault) × (after ≡ block))

@@ -4,7 +4,8 @@ ghost use Rattle.cipher.specs.Calls.{parameter_table};
 
 use faults::{ModeCause, ModeFault};
 
-/// Which cipher of the family it is: the domain separator, 0 to 15, and the count of super-rounds, 10 to 31.
+/// Which cipher of the family it is: the domain separator, 0 to 15, and the count of super-rounds,
+/// 10 to 31.
 #[derive(Clone, Copy)]
 pub struct Parameters {
     pub separator: u8,

@@ -1,6 +1,6 @@
 ghost use Rattle.std.specs.Prelude.{◌≡◌, ℕ, length};
 ghost use Rattle.faults.specs.Tables.{Checks};
-ghost use Rattle.cipher.specs.Meaning.{BlockFunction, GivesBlocks, TwoWay};
+ghost use Rattle.cipher.specs.Meaning.{BlockFunction, Takes, GivesBlocks, TwoWay, OnlyBlock};
 ghost use Rattle.cipher.specs.Calls.{Calls, call_table};
 
 use crate::parameters::Parameters;
@@ -14,8 +14,9 @@ pub trait Cipher {
     fn encrypt_block(&self, key: &[u8; 32], by: Parameters, block: &[u8; 32]) -> [u8; 32]
         ensures { result ≡ forward self.now key.now by.separator by.«super_rounds» block.now };
 
-    /// The same in the block's own buffer, of any key, parameters and block. Refused with 1 where key or block has not 32 bytes,
-    /// and with 3 outside the ranges of the parameters; the block then stays.
+    /// The same in the block's own buffer, of any key, parameters and block. Refused with 1 where
+    /// key or block has not 32 bytes, and with 3 outside the ranges of the parameters; the block
+    /// then stays.
     fn encrypt(
         &self,
         key: &[u8],
@@ -23,7 +24,8 @@ pub trait Cipher {
         super_rounds: u8,
         block: &mut [u8],
     ) -> Result<(), ModeFault>
-        ensures { Calls (forward self.now) key.now separator «super_rounds» block.old result block.new }
+        ensures { Calls (forward self.now) key.now separator «super_rounds» block.old
+            result block.new }
     {
         let (key, by, plain) = admitted(key, separator, super_rounds, block)?;
         block.copy_from_slice(&self.encrypt_block(&key, by, &plain));
@@ -41,7 +43,8 @@ pub trait TwoWayCipher: Cipher {
     fn decrypt_block(&self, key: &[u8; 32], by: Parameters, block: &[u8; 32]) -> [u8; 32]
         ensures { result ≡ back self.now key.now by.separator by.«super_rounds» block.now };
 
-    /// The same in the block's own buffer, refused as `encrypt` is.
+    /// The same in the block's own buffer, refused as `encrypt` is. No other block of 32 bytes goes
+    /// to the given one.
     fn decrypt(
         &self,
         key: &[u8],
@@ -49,7 +52,11 @@ pub trait TwoWayCipher: Cipher {
         super_rounds: u8,
         block: &mut [u8],
     ) -> Result<(), ModeFault>
-        ensures { Calls (back self.now) key.now separator «super_rounds» block.old result block.new }
+        ensures calls { Calls (back self.now) key.now separator «super_rounds» block.old
+            result block.new }
+        ensures only { result ≡ Ok tt
+            → OnlyBlock (Self.Cipher.forward self.now) key.now separator «super_rounds»
+            block.old block.new }
     {
         let (key, by, text) = admitted(key, separator, super_rounds, block)?;
         block.copy_from_slice(&self.decrypt_block(&key, by, &text));
@@ -67,7 +74,9 @@ fn admitted(
     block: &[u8],
 ) -> Result<([u8; 32], Parameters, [u8; 32]), ModeFault>
     ensures { Checks (call_table (length key.now) separator «super_rounds» (length block.now))
-        (λ call. (call.0 ≡ key.now) × (call.1.separator ≡ separator) × (call.1.«super_rounds» ≡ «super_rounds») × (call.2 ≡ block.now)) result }
+        (λ call. Takes key.now separator «super_rounds» block.now × (call.0 ≡ key.now)
+        × (call.1.separator ≡ separator) × (call.1.«super_rounds» ≡ «super_rounds»)
+        × (call.2 ≡ block.now)) result }
 {
     let (Ok(key), Ok(block)) = (key.try_into(), block.try_into()) else {
         return Err(ModeCause::Length.into());

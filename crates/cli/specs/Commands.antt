@@ -1,7 +1,7 @@
 -- Which words are a command.
 use Rattle.std.specs.Prelude.{◌≡◌, ◌≤◌, ◌⊎◌, ℕ, List, [], ◌∷◌, length, codes}
 
--- the first word is this one, and what follows it is as told
+-- the first word is this one, and of the rest this is true
 abbrev pub Begins : (word : List ℕ) → (List (List ℕ) → Type 0) → (words : List (List ℕ)) → Type 0
 Begins word follows [] = ⊥
 Begins word follows (first ∷ rest) = (first ≡ word) × follows rest

@@ -1,3 +1,4 @@
 pub mod Commands
+pub mod Nonces
 pub mod Shelves
 pub mod Spelling

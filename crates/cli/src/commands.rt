@@ -1,12 +1,12 @@
 ghost use Rattle.std.specs.Prelude.{◌↔◌, ◌∷◌, codes, map, IfOk, IsOk, IsTrue, string_bytes};
-ghost use Rattle.cli.specs.Spelling.{Reads};
+ghost use Rattle.cli.specs.Spelling.{CommandOf};
 
 use crate::problems::Problem;
 use desk::Unmade;
 use faults::ModeCause;
 use std::{fmt, io};
 
-// How the commands are called.
+/// How the commands are called.
 pub(crate) const USAGE: &str =
     "usage: majgunter hash FILE...                            print the Saturnin-Hash of each file
        majgunter lock [--nonce HEX] KEYFILE IN OUT      lock a file with a key of 32 bytes
@@ -15,7 +15,10 @@ pub(crate) const USAGE: &str =
        majgunter shelf plate FILE PLACES                print what a plate of so many places holds
        majgunter box                                    work a box by a script on standard input";
 
-// The names of the files that a locking or an unlocking is about.
+const PLATE_HINT: &str = "; a plate has 1 to 4,096 places, no mark above their count, \
+                          and no used cell after an unused one";
+
+/// The names of the files that a locking or an unlocking is about.
 #[derive(Clone, Copy)]
 pub(crate) struct Files<'a> {
     pub(crate) key: &'a str,
@@ -23,7 +26,7 @@ pub(crate) struct Files<'a> {
     pub(crate) to: &'a str,
 }
 
-// A command of the program, with what its words name.
+/// A command of the program, with what its words name.
 #[derive(Clone, Copy)]
 pub(crate) enum Command<'a> {
     Help,
@@ -44,9 +47,9 @@ pub(crate) enum Command<'a> {
 }
 
 impl<'a> Command<'a> {
-    // The command that the words are, if they are one.
+    /// The command that the words are, if they are one.
     pub(crate) fn of(words: &'a [String]) -> Option<Command<'a>>
-        ensures { Reads (map string_bytes words.now) result }
+        ensures { CommandOf (map string_bytes words.now) result }
     {
         let [first, rest @ ..] = words else {
             return None;
@@ -63,7 +66,7 @@ impl<'a> Command<'a> {
     }
 
     fn of_lock(words: &'a [String]) -> Option<Command<'a>>
-        ensures { Reads (codes "lock" ∷ map string_bytes words.now) result }
+        ensures { CommandOf (codes "lock" ∷ map string_bytes words.now) result }
     {
         match words {
             [key, from, to] => Some(Command::Lock {
@@ -79,7 +82,7 @@ impl<'a> Command<'a> {
     }
 
     fn of_unlock(words: &'a [String]) -> Option<Command<'a>>
-        ensures { Reads (codes "unlock" ∷ map string_bytes words.now) result }
+        ensures { CommandOf (codes "unlock" ∷ map string_bytes words.now) result }
     {
         let [key, from, to] = words else {
             return None;
@@ -88,7 +91,7 @@ impl<'a> Command<'a> {
     }
 
     fn of_shelf(words: &'a [String]) -> Option<Command<'a>>
-        ensures { Reads (codes "shelf" ∷ map string_bytes words.now) result }
+        ensures { CommandOf (codes "shelf" ∷ map string_bytes words.now) result }
     {
         match words {
             [kind, file] if kind.as_str() == "tray" => Some(Command::Tray { file }),
@@ -100,8 +103,9 @@ impl<'a> Command<'a> {
         }
     }
 
-    // Whether the command was done: what it gives, or, on standard error, why it is not done.
-    pub(crate) fn told<T: fmt::Display + Drop>(
+    /// Prints what the command gives, or, on standard error, why it is not done. Whether it is
+    /// done.
+    pub(crate) fn print_answer<T: fmt::Display + Drop>(
         &self,
         rt: &HostRuntime,
         name: &str,
@@ -127,7 +131,7 @@ impl<'a> Command<'a> {
         let cause = match problem {
             Problem::Unmade(Unmade::Refused(fault)) => fault.cause,
             Problem::Unmade(Unmade::Unfit(_)) => {
-                return "; a plate has 1 to 4,096 places, no mark above their count, and no used cell after an unused one";
+                return PLATE_HINT;
             }
             _ => return "",
         };

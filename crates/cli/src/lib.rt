@@ -15,10 +15,10 @@ use desk::digest_line;
 use files::read_limited;
 use locks::{lock_file, unlock_file};
 use problems::Problem;
-use shelves::{plate_told, tray_told};
+use shelves::{plate_text, tray_text};
 use std::io;
 
-// One command of the program, in words. Whether all was done.
+/// One command of the program, in words. Whether all was done; what was not is on standard error.
 pub fn run(rt: &HostRuntime, words: &[String]) -> io::Result<bool>
     ensures help { IsHelp (map string_bytes words.now) → IfOk result IsTrue }
     ensures commands { IfOk result (λ done. IsTrue done → IsCommand (map string_bytes words.now)) }
@@ -35,23 +35,27 @@ pub fn run(rt: &HostRuntime, words: &[String]) -> io::Result<bool>
         Command::Hash(files) => hash_files(rt, command, files),
         Command::Lock { nonce, files } => {
             let done = lock_file(rt, nonce, files);
-            command.told(rt, files.from, done.map(|()| ""))
+            command.print_answer(rt, files.from, done.map(|()| ""))
         }
         Command::Unlock(files) => {
             let done = unlock_file(rt, files);
-            command.told(rt, files.from, done.map(|()| ""))
+            command.print_answer(rt, files.from, done.map(|()| ""))
         }
-        Command::Tray { file } => command.told(rt, file, tray_told(rt, file)),
-        Command::Plate { file, places } => command.told(rt, file, plate_told(rt, file, places)),
+        Command::Tray { file } => command.print_answer(rt, file, tray_text(rt, file)),
+        Command::Plate { file, places } => {
+            let text = plate_text(rt, file, places);
+            command.print_answer(rt, file, text)
+        }
         Command::Box => box_desk::work_script(rt),
     }
 }
 
-// A line for each file; one that has none gets its reason on standard error, and the others are still done.
+// A line for each file; one that has none gets its reason on standard error, and the others are
+// still done.
 fn hash_files(rt: &HostRuntime, command: Command, files: &[String]) -> io::Result<bool> {
     let mut all = true;
     for file in files {
-        all = command.told(rt, file, hash_file(rt, file))? && all;
+        all = command.print_answer(rt, file, hash_file(rt, file))? && all;
     }
     Ok(all)
 }

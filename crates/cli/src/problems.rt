@@ -8,11 +8,13 @@ use files::Unread;
 use std::alloc::AllocError;
 use std::{fmt, io};
 
-// Why a command is not done.
+/// Why a command is not done.
 #[derive(Drop)]
 pub enum Problem {
     Unmade(Unmade),
+    /// a nonce that is not in hexadecimal digits
     NoDigits,
+    /// a count of places that is no number
     NoCount,
     Unread(Unread),
     KeyUnread(io::Error),

@@ -4,7 +4,8 @@ use desk::Unmade;
 use std::fs;
 use std::test::Fail;
 
-// A small file goes there and back, and a damaged copy, another key and a short key are refused with nothing written.
+// A small file goes there and back, and a damaged copy, another key and a short key are refused
+// with nothing written.
 #[test]
 fn locks_and_unlocks(rt: HostRuntime) -> Result<(), Fail> {
     fs::write(&rt, "key", "0123456789abcdef0123456789abcdef")?;

@@ -1,3 +1,4 @@
 pub mod Lines
 pub mod Locks
+pub mod Printed
 pub mod Shelves

@@ -1,26 +1,28 @@
 ghost use Rattle.std.specs.Prelude.{◌≡◌, IfOk, string_bytes};
 ghost use Rattle.tray.specs.Trays.{tray as tray_in};
 ghost use Rattle.inventory.specs.Reports.{Reports};
-ghost use Rattle.desk.specs.Shelves.{Told};
+ghost use Rattle.desk.specs.Shelves.{PlateAnswer};
 
 use crate::unmade::Unmade;
-use plate::Plate;
 use inventory::report;
+use plate::Plate;
 use std::alloc::{AllocError, Global};
 use tray::Tray;
 
-// What the tray in an image holds.
+/// The report on the tray in an image: a line for each of its used places. The image stays as it
+/// is.
 pub fn tray_report(heap: Global, image: &mut [u8]) -> Result<String, AllocError>
-    ensures told { IfOk result (λ text. Reports (tray_in image.old) (string_bytes text)) }
+    ensures report { IfOk result (λ text. Reports (tray_in image.old) (string_bytes text)) }
     ensures same { image.new ≡ image.old }
 {
     let tray = Tray::new(image);
     report(heap, &tray)
 }
 
-// What the plate in an image holds, or why it is unfit.
+/// The report on the plate of so many places in an image, or the fault `Unfit` of one that is
+/// unfit. The image stays as it is.
 pub fn plate_report(heap: Global, image: &mut [u8], places: u32) -> Result<String, Unmade>
-    ensures told { Told string_bytes image.old places result }
+    ensures report { PlateAnswer string_bytes image.old places result }
     ensures same { image.new ≡ image.old }
 {
     Plate::check(image, places)?;

@@ -1,15 +1,19 @@
-ghost use Rattle.std.specs.Prelude.{◌≡◌};
+ghost use Rattle.std.specs.Prelude.{◌≡◌, Some};
+ghost use Rattle.desk.specs.Printed.{printed_unmade};
 ghost use Rattle.desk.specs.declared.unmade.Unmade.TheVariants.{Refused, Unfit, Memory};
 
 use faults::{ModeFault, ShelfFault};
 use std::alloc::AllocError;
 use std::fmt;
 
-// Why something is not made.
+/// Why something is not made.
 #[derive(Drop)]
 pub enum Unmade {
+    /// refused by the cipher or a mode
     Refused(ModeFault),
+    /// an image that is no plate of so many places
     Unfit(ShelfFault),
+    /// no memory for it
     Memory,
 }
 
@@ -38,6 +42,8 @@ impl From<AllocError> for Unmade {
 }
 
 impl fmt::Display for Unmade {
+    ghost output = { λ u. Some (printed_unmade u) };
+
     fn fmt<W: fmt::Write>(&self, f: &mut fmt::Formatter<W>) -> fmt::Result {
         match self {
             Unmade::Refused(fault) => write!(f, "{fault}"),

@@ -4,19 +4,20 @@ ghost use Rattle.files.specs.Limits.{Names};
 use crate::unread::Unread;
 use crate::whole::read_limited;
 
-// 4,096 places of 1,024 bytes, and 8,192 cells of 1,026.
+// 4,096 places of 1,024 bytes.
 const TRAY_BYTES: u64 = 4_194_304;
 
+// 8,192 cells of 1,026 bytes.
 const PLATE_BYTES: u64 = 8_404_992;
 
-// The image of a tray: a file of no more bytes than a tray can have.
+/// The image of a tray: a file of at most 4,194,304 bytes, the most that a tray has.
 pub fn read_tray(rt: &HostRuntime, file: &str) -> Result<Vec<u8>, Unread>
     ensures { MatchResult result (λ image. length image.items ≤ 4194304) (Names 4194304) }
 {
     read_image(rt, file, TRAY_BYTES)
 }
 
-// The same of a plate.
+/// The image of a plate: a file of at most 8,404,992 bytes, the most that a plate has.
 pub fn read_plate(rt: &HostRuntime, file: &str) -> Result<Vec<u8>, Unread>
     ensures { MatchResult result (λ image. length image.items ≤ 8404992) (Names 8404992) }
 {

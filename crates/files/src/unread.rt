@@ -3,11 +3,11 @@ ghost use Rattle.files.specs.declared.unread.Unread.TheVariants.{Failed};
 
 use std::{fmt, io};
 
-// Why an image is not read.
+/// Why an image is not read.
 #[derive(Drop)]
 pub enum Unread {
     Failed(io::Error),
-    // more bytes than a shelf of its kind can have
+    /// more bytes than this, the most that a shelf of its kind has
     Over(u64),
 }
 

@@ -4,18 +4,18 @@ use std::fs::{File, OpenOptions};
 use std::io::{Read, Write};
 use std::{fs, io};
 
-// At most so many bytes of a file, however long it is.
+/// At most so many bytes of a file, from its beginning, however long it is.
 pub fn read_limited(rt: &HostRuntime, name: &str, limit: u64) -> io::Result<Vec<u8>>
     ensures { IfOk result (λ bytes. length bytes.items ≤ limit) }
 {
     let mut bytes = Vec::new(rt.alloc());
     File::open(rt, name)?.take(limit).read_to_end(&mut bytes)?;
-    // Nothing is left to cut; the contract of the reading does not say so.
     bytes.truncate(limit as usize);
     Ok(bytes)
 }
 
-// Writes a new file beside the name, and gives it the name when it is whole.
+/// Writes the bytes into a new file `name.part`, and gives it the name when it is whole. Until
+/// then, and on an error, a file that had the name stays as it is.
 pub fn write_whole(rt: &HostRuntime, name: &str, bytes: &[u8]) -> io::Result<()> {
     let part = format!(in rt.alloc(); "{name}.part")?;
     let mut file = OpenOptions::new()

@@ -12,7 +12,7 @@ use Rattle.modes.specs.Cascade.{ctr, tag, CascadeOpens}
 use Rattle.modes.proofs.Streams.{ctr_twice}
 use Rattle.modes.proofs.Blocks.{drop-bytes, tag-bytes, ctr-bytes}
 use Rattle.modes.proofs.Exactly.{stable_same}
-use Rattle.locked.specs.Locked.{magic, locked, Holds, HoldsOnly, Unlocks}
+use Rattle.locked.specs.Locked.{magic, locked, FileHolds, FileHoldsOnly, Unlocks}
 use Rattle.locked.proofs.Parts.{in_parts, part-magic, part-nonce, part_rest}
 
 magic-bytes : Octets magic
@@ -26,14 +26,14 @@ module _ (f : BlockFunction) (key file : List ℕ) where
   abbrev pub nonce_of : List ℕ
   nonce_of = take 20 (drop 4 file)
 
-  abbrev pub sign_of : List ℕ
-  sign_of = take 32 (drop 24 file)
+  abbrev pub tag_of : List ℕ
+  tag_of = take 32 (drop 24 file)
 
   abbrev pub text_of : List ℕ
   text_of = drop 56 file
 
   -- parts that open
-  pub holds : (n : ℕ) (out : List ℕ) → length file ≡ 56 + n → ((i : ℕ) → at out i < 256) → take 4 file ≡ magic → sign_of ≡ tag f key nonce_of magic text_of → out ≡ ctr f key nonce_of text_of → Holds f key file out
+  pub holds : (n : ℕ) (out : List ℕ) → length file ≡ 56 + n → ((i : ℕ) → at out i < 256) → take 4 file ≡ magic → tag_of ≡ tag f key nonce_of magic text_of → out ≡ ctr f key nonce_of text_of → FileHolds f key file out
   unfolding locked
   holds n out l small m s e = record {
     nonce = nonce_of;
@@ -45,39 +45,39 @@ module _ (f : BlockFunction) (key file : List ℕ) where
   }
 
   -- and what opens where a message is held
-  module _ (gives : GivesBlocks f) (kb : Bytes 32 key) (fb : Octets file) (message : List ℕ) (h : Holds f key file message) where
+  module _ (gives : GivesBlocks f) (kb : Bytes 32 key) (fb : Octets file) (message : List ℕ) (h : FileHolds f key file message) where
     text : List ℕ
     text = ctr f key h.nonce message
 
-    sign : List ℕ
-    sign = tag f key h.nonce magic text
+    right : List ℕ
+    right = tag f key h.nonce magic text
 
-    laid : file ≡ magic ++ (h.nonce ++ (sign ++ text))
-    unfolding locked sign text
+    laid : file ≡ magic ++ (h.nonce ++ (right ++ text))
+    unfolding locked right text
     laid = h.file_is
 
     pub held-magic : take 4 file ≡ magic
-    held-magic = ap (take 4) laid ∙ part-magic magic h.nonce (sign ++ text) refl h.nonce_long
+    held-magic = ap (take 4) laid ∙ part-magic magic h.nonce (right ++ text) refl h.nonce_long
 
     held-nonce : nonce_of ≡ h.nonce
-    held-nonce = ap (λ t. take 20 (drop 4 t)) laid ∙ part-nonce magic h.nonce (sign ++ text) refl h.nonce_long
+    held-nonce = ap (λ t. take 20 (drop 4 t)) laid ∙ part-nonce magic h.nonce (right ++ text) refl h.nonce_long
 
-    held_rest : drop 24 file ≡ sign ++ text
-    held_rest = ap (drop 24) laid ∙ part_rest magic h.nonce (sign ++ text) refl h.nonce_long
+    held_rest : drop 24 file ≡ right ++ text
+    held_rest = ap (drop 24) laid ∙ part_rest magic h.nonce (right ++ text) refl h.nonce_long
 
     nonce-bytes : Octets h.nonce
     nonce-bytes = subst Octets held-nonce (take-bytes (drop 4 file) 20 (drop-bytes file 4 fb))
 
-    sign-long : length sign ≡ 32
-    unfolding sign text
-    sign-long = (tag-bytes f gives key h.nonce kb (omega (arith, h.nonce_long)) nonce-bytes magic _ magic-bytes (ctr-bytes f gives key h.nonce kb (omega (arith, h.nonce_long)) nonce-bytes message h.bytes)).0
+    right-long : length right ≡ 32
+    unfolding right text
+    right-long = (tag-bytes f gives key h.nonce kb (omega (arith, h.nonce_long)) nonce-bytes magic _ magic-bytes (ctr-bytes f gives key h.nonce kb (omega (arith, h.nonce_long)) nonce-bytes message h.bytes)).0
 
     held-text : text_of ≡ text
-    held-text = sym (drop-drop 32 24 file) ∙ ap (drop 32) held_rest ∙ drop_at sign text 32 sign-long
+    held-text = sym (drop-drop 32 24 file) ∙ ap (drop 32) held_rest ∙ drop_at right text 32 right-long
 
-    pub held-sign : sign_of ≡ tag f key nonce_of magic text_of
-    unfolding sign
-    held-sign = ap (take 32) held_rest ∙ take_at sign text 32 sign-long ∙ ap₂ (λ n t. tag f key n magic t) (sym held-nonce) (sym held-text)
+    pub held-tag : tag_of ≡ tag f key nonce_of magic text_of
+    unfolding right
+    held-tag = ap (take 32) held_rest ∙ take_at right text 32 right-long ∙ ap₂ (λ n t. tag f key n magic t) (sym held-nonce) (sym held-text)
 
     pub held-message : message ≡ ctr f key nonce_of text_of
     unfolding text
@@ -89,17 +89,17 @@ module _ (f : BlockFunction) (gives : GivesBlocks f) (key file out : List ℕ) (
   pub other_word : (take 4 file ≡ magic → ⊥) → answer ≡ Err (mode_fault Tag) → out' ≡ zeros (length out) → Unlocks f key file out answer out'
   other_word differs e z = (λ h. absurd (h (kl, fl)), λ n. (λ h. absurd (omega arith), λ m. (λ no. (e, z), λ nn. absurd (nn (λ w. differs (held-magic f key file gives (kl, kb) fb w.0 w.1))))))
 
-  pub this_word : take 4 file ≡ magic → CascadeOpens f key (nonce_of f key file) magic (text_of f key file) (sign_of f key file) out answer out' → Unlocks f key file out answer out'
+  pub this_word : take 4 file ≡ magic → CascadeOpens f key (nonce_of f key file) magic (text_of f key file) (tag_of f key file) out answer out' → Unlocks f key file out answer out'
   this_word word opens =
       let rest = (opens.1 (λ k. k (kl, simp length-drop (omega arith), simp (length-take, length-drop) (omega arith)))).1 (λ k. k (simp (length-take, length-drop) (omega arith), lit≤ tt, simp length-drop (omega arith))) in
-      let held : sign_of f key file ≡ tag f key (nonce_of f key file) magic (text_of f key file) → (answer ≡ Ok tt) × HoldsOnly f key file out' =
+      let held : tag_of f key file ≡ tag f key (nonce_of f key file) magic (text_of f key file) → (answer ≡ Ok tt) × FileHoldsOnly f key file out' =
       λ e. let d = rest.1 (λ k. k e) in (d.0, (holds f key file (length out) out' fl ob word e d.1, λ other h. held-message f key file gives (kl, kb) fb other h ∙ sym d.1)) in (
         λ h. absurd (h (kl, fl)),
         λ n. (
           λ h. absurd (omega arith),
           λ m. (
             λ no. rest.0 (λ e. no (out', (held e).1.0)),
-            λ nn. held (stable_same _ _ (λ q. nn (λ w. q (held-sign f key file gives (kl, kb) fb w.0 w.1)))),
+            λ nn. held (stable_same _ _ (λ q. nn (λ w. q (held-tag f key file gives (kl, kb) fb w.0 w.1)))),
           ),
         ),
       )

@@ -10,15 +10,15 @@ use Rattle.modes.specs.Bytes.{padded}
 use Rattle.modes.specs.Cascade.{cascade_table, CascadeOpens, ctr, tag}
 use Rattle.modes.specs.Short.{ShortOpens, filled}
 
-module _ (f : BlockFunction) (key nonce associated text out sign : List ℕ) where
+module _ (f : BlockFunction) (key nonce associated text out given : List ℕ) where
   module _ (fault : ModeFault) (answer : Result (Unit {0}) ModeFault) (e : answer ≡ Err fault)
-      (b : By (cascade_table (length key) (length nonce) (length associated) (length text) (length out) (length sign)) (λ row. fault ≡ row) ⊥) where
-    pub open_refused : CascadeOpens f key nonce associated text sign out answer out
+      (b : By (cascade_table (length key) (length nonce) (length associated) (length text) (length out) (length given)) (λ row. fault ≡ row) ⊥) where
+    pub open_refused : CascadeOpens f key nonce associated text given out answer out
     open_refused = (λ h. (e ∙ ap Err (b.0 h), refl), λ n. (λ h. (e ∙ ap Err ((b.1 n).0 h), refl), λ m. absurd ((b.1 n).1 m)))
 
   -- all lengths are right
-  module _ (whole : (length key ≡ 32) × (length out ≡ length text) × (length sign ≡ 32)) (few : (length nonce ≤ 20) × (length associated ≤ 65536) × (length text ≤ 65536)) where
-    pub right_tag : (out' : List ℕ) → sign ≡ tag f key nonce associated text → out' ≡ ctr f key nonce text → CascadeOpens f key nonce associated text sign out (Ok tt) out'
+  module _ (whole : (length key ≡ 32) × (length out ≡ length text) × (length given ≡ 32)) (few : (length nonce ≤ 20) × (length associated ≤ 65536) × (length text ≤ 65536)) where
+    pub right_tag : (out' : List ℕ) → given ≡ tag f key nonce associated text → out' ≡ ctr f key nonce text → CascadeOpens f key nonce associated text given out (Ok tt) out'
     right_tag out' right a =
         (λ h. absurd (h whole), λ n. (λ h. absurd (h few), λ m. (λ h. absurd (h right), λ k. (refl, a))))
 

@@ -2,14 +2,13 @@
 use Rattle.std.proofs.Common.{◌≡◌, ℕ, ◌+◌, ◌-◌, ◌<◌, ◌≤◌, List, ◌++◌, length, get_or, take, drop, Ok, Err, Result, sym, refl, ap, ◌∙◌, inl, inr, arith, lit≤}
 use Rattle.std.proofs.lemmas.Bool.{cases_lt}
 use Rattle.std.proofs.lemmas.List.{length-append, take_at, drop_at, get_or-append_right, get_or_past}
-use Rattle.faults.specs.declared.BoxCause.TheVariants.{Mode}
 use Rattle.faults.specs.Causes.{from_mode, left}
 use Rattle.faults.specs.Tables.{Clear}
-use Rattle.faults.specs.declared.ModeCause.{ModeCause}
 use Rattle.faults.specs.declared.ModeFault.{ModeFault}
 use Rattle.faults.proofs.Results.{never_both}
 use Rattle.faults.proofs.Tables.{done_from_clear, done_when, stable_eq}
 use Rattle.cipher.specs.Meaning.{BlockFunction, Takes, TwoWay}
+use Rattle.cipher.proofs.Back.{turned_back}
 use Rattle.modes.specs.Bytes.{padded}
 use Rattle.modes.specs.Short.{short, short_open_table, BlockHolds, filled, ShortOpens, ShortSealsTo, ShortOpensExactly}
 use Rattle.modes.proofs.Texts.{length-padded, padded_front, padded-here, padded_after, padded-bytes}
@@ -52,7 +51,9 @@ module _ (f g : BlockFunction) (two_way : TwoWay f g) (key nonce block : List �
     -- what sealing gives, turned back
     turned : BlockHolds g key nonce block m
     unfolding short
-    turned = (few, sym (two_way.only key 6 10 (nonce ++ padded 16 m) block takes (sym w.block_is)))
+    turned =
+        let whole : length block ≡ 32 = stable_eq (length block) 32 (λ n. w.taken.0 (λ p. n p.2)) in
+        (few, sym (turned_back f g two_way key 6 10 (nonce ++ padded 16 m) block takes (whole, bb) (sym w.block_is)))
 
   module _ (out : List ℕ) (answer : Result ℕ ModeFault) (out' : List ℕ) (opens : ShortOpens g key nonce block out answer out') where
     refused : ModeFault → Type 0
@@ -77,7 +78,7 @@ module _ (f g : BlockFunction) (two_way : TwoWay f g) (key nonce block : List �
               let e : get_or m i 0 ≡ get_or (g key 6 10 block) (16 + i) 0 =
               sym (padded_front 16 m i a) ∙ (let d : i ≡ 16 + i - 16 = omega arith in ap (λ k. get_or (padded 16 m) k 0) d)
               ∙ sym (get_or-append_right nonce (padded 16 m) 16 (16 + i) 0 nl (omega arith)) ∙ ap (λ t. get_or t (16 + i) 0) (sym holds.1) in
-              omega (arith, e, (two_way.gives_blocks key 6 10 block takes).1 (16 + i))
+              omega (arith, e, (two_way key 6 10 block takes).whole.1 (16 + i))
           | inr a ↦ omega (arith, get_or_past m i 0 a)
         ] in
         let same : length m ≡ n = (let e : ◌≡◌ {A = Result ℕ ModeFault} (Ok (length m)) (Ok n) = sym w.1.2 ∙ h in (let q : length m ≡ n = cc in q)) in (
@@ -85,7 +86,7 @@ module _ (f g : BlockFunction) (two_way : TwoWay f g) (key nonce block : List �
           record {
             bytes = small;
             taken = (λ k. k (kl, nl, bl), (λ k. omega (arith, k, holds.0), tt));
-            block_is = sym (two_way.forward_back key 6 10 block takes) ∙ ap (f key 6 10) holds.1;
+            block_is = sym (two_way key 6 10 block takes).goes_there ∙ ap (f key 6 10) holds.1;
           },
           same,
           w.1.3,

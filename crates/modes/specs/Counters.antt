@@ -11,7 +11,8 @@ use Rattle.modes.specs.Bytes.{xor, padded}
 unfoldable pub counter_block : (nonce : List ℕ) (counter : ℕ) → List ℕ
 counter_block nonce counter = xor (padded 32 nonce) (big_endian 32 counter)
 
--- the law of it: as a number, its last 95 bits are the counter, and the bits before them are those of the padded nonce
+-- as a number: its last 95 bits are the counter, and the bits before them are those of the padded
+-- nonce
 pub record CounterHeld (nonce : List ℕ) (counter : ℕ) : Type 0 where
   pub long : length (counter_block nonce counter) ≡ 32
   pub last : spelt (counter_block nonce counter) 0 % 2 ^ 95 ≡ counter
@@ -22,8 +23,11 @@ abbrev pub counter_table : (nonce : ℕ) → Table ModeFault
 counter_table nonce = (20 < nonce, mode_fault Limit) ∷ []
 
 -- a call for a counter block, by its answer; `bytes` are those of the block that was made
-abbrev pub Counts : {Block : Type 0} → (bytes : Block → List ℕ) (nonce : List ℕ) (counter : ℕ) → Result Block ModeFault → Type 0
+abbrev pub Counts :
+    {Block : Type 0} → (bytes : Block → List ℕ) (nonce : List ℕ) (counter : ℕ)
+    → Result Block ModeFault → Type 0
 Counts {Block} bytes nonce counter answer =
     By (counter_table (length nonce))
     (λ fault. answer ≡ Err fault)
-    ((block : Block) × (answer ≡ Ok block) × (bytes block ≡ counter_block nonce counter) × CounterHeld nonce counter)
+    ((block : Block)
+    × (answer ≡ Ok block) × (bytes block ≡ counter_block nonce counter) × CounterHeld nonce counter)

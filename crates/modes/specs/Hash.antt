@@ -14,10 +14,13 @@ hash f message = chain f 7 8 16 (zeros 32) message
 
 -- message and digest by their lengths
 abbrev pub hash_table : (message digest : ℕ) → Table ModeFault
-hash_table message digest = (Not (digest ≡ 32), mode_fault Length) ∷ (65536 < message, mode_fault Limit) ∷ []
+hash_table message digest =
+    (Not (digest ≡ 32), mode_fault Length) ∷ (65536 < message, mode_fault Limit) ∷ []
 
 -- a call of the hash, by its answer and by what the digest's buffer holds after it
-abbrev pub Hashes : BlockFunction → (message digest : List ℕ) → Result (Unit {0}) ModeFault → List ℕ → Type 0
+abbrev pub Hashes :
+    BlockFunction → (message digest : List ℕ)
+    → Result (Unit {0}) ModeFault → (after : List ℕ) → Type 0
 Hashes f message digest answer after =
     By (hash_table (length message) (length digest))
     (λ fault. (answer ≡ Err fault) × (after ≡ digest))

@@ -14,10 +14,15 @@ short f key nonce message = f key 6 10 (nonce ++ padded 16 message)
 
 -- key, nonce, message and block by their lengths
 abbrev pub short_table : (key nonce message block : ℕ) → Table ModeFault
-short_table key nonce message block = (Not ((key ≡ 32) × (nonce ≡ 16) × (block ≡ 32)), mode_fault Length) ∷ (15 < message, mode_fault Limit) ∷ []
+short_table key nonce message block =
+    (Not ((key ≡ 32) × (nonce ≡ 16) × (block ≡ 32)), mode_fault Length)
+    ∷ (15 < message, mode_fault Limit)
+    ∷ []
 
 -- a sealing, by its answer and by what the block's buffer holds after it
-abbrev pub ShortSeals : BlockFunction → (key nonce message block : List ℕ) → Result (Unit {0}) ModeFault → (block' : List ℕ) → Type 0
+abbrev pub ShortSeals :
+    BlockFunction → (key nonce message block : List ℕ)
+    → Result (Unit {0}) ModeFault → (block' : List ℕ) → Type 0
 ShortSeals f key nonce message block answer block' =
     By (short_table (length key) (length nonce) (length message) (length block))
     (λ fault. (answer ≡ Err fault) × (block' ≡ block))
@@ -25,11 +30,15 @@ ShortSeals f key nonce message block answer block' =
 
 -- the block, turned back, is this nonce and this message, padded
 abbrev pub BlockHolds : BlockFunction → (key nonce block message : List ℕ) → Type 0
-BlockHolds back key nonce block message = (length message ≤ 15) × (back key 6 10 block ≡ nonce ++ padded 16 message)
+BlockHolds back key nonce block message =
+    (length message ≤ 15) × (back key 6 10 block ≡ nonce ++ padded 16 message)
 
+-- key, nonce, block and output buffer by their lengths, and then whether the block holds a message
 abbrev pub short_open_table : BlockFunction → (key nonce block out : List ℕ) → Table ModeFault
-short_open_table back key nonce block out =
-    (Not ((length key ≡ 32) × (length nonce ≡ 16) × (length block ≡ 32) × (length out ≡ 15)), mode_fault Length)
+short_open_table back key nonce block out = (
+  Not ((length key ≡ 32) × (length nonce ≡ 16) × (length block ≡ 32) × (length out ≡ 15)),
+  mode_fault Length,
+)
     ∷ (Not ((message : List ℕ) × BlockHolds back key nonce block message), mode_fault Padding)
     ∷ []
 
@@ -37,12 +46,16 @@ short_open_table back key nonce block out =
 abbrev pub filled : (message : List ℕ) → List ℕ
 filled message = message ++ zeros (15 - length message)
 
--- an opening, by its answer, the length of the message, and by what the buffer for the message holds after it
-abbrev pub ShortOpens : BlockFunction → (key nonce block out : List ℕ) → Result ℕ ModeFault → (out' : List ℕ) → Type 0
+-- an opening, by its answer, the length of the message, and by what the buffer for the message
+-- holds after it
+abbrev pub ShortOpens :
+    BlockFunction → (key nonce block out : List ℕ) → Result ℕ ModeFault → (out' : List ℕ) → Type 0
 ShortOpens back key nonce block out answer out' =
     By (short_open_table back key nonce block out)
     (λ fault. (answer ≡ Err fault) × (out' ≡ left (from_mode fault) out))
-    ((message : List ℕ) × BlockHolds back key nonce block message × (answer ≡ Ok (length message)) × (out' ≡ filled message))
+    ((message : List ℕ)
+    × BlockHolds back key nonce block message
+    × (answer ≡ Ok (length message)) × (out' ≡ filled message))
 
 -- sealing this message is not refused and gives this block
 pub record ShortSealsTo (f : BlockFunction) (key nonce message block : List ℕ) : Type 0 where
@@ -50,9 +63,16 @@ pub record ShortSealsTo (f : BlockFunction) (key nonce message block : List ℕ)
   pub taken : Clear (short_table (length key) (length nonce) (length message) (length block))
   pub block_is : block ≡ short f key nonce message
 
--- an opening into a buffer of 15 bytes is done exactly when there is a message whose sealing gives the block; then it gives
--- that message, and there is no other
-pub record ShortOpensExactly (f : BlockFunction) (key nonce block out : List ℕ) (answer : Result ℕ ModeFault) (out' : List ℕ) : Type 0 where
-  pub sound : (n : ℕ) → answer ≡ Ok n → (message : List ℕ) × ShortSealsTo f key nonce message block × (length message ≡ n) × (out' ≡ filled message)
-  pub complete : (message : List ℕ) → ShortSealsTo f key nonce message block → length out ≡ 15 → (answer ≡ Ok (length message)) × (out' ≡ filled message)
-  pub only : (m n : List ℕ) → ShortSealsTo f key nonce m block → ShortSealsTo f key nonce n block → m ≡ n
+-- an opening into a buffer of 15 bytes is done exactly when there is a message whose sealing gives
+-- the block; then it gives that message, and there is no other
+pub record ShortOpensExactly (f : BlockFunction) (key nonce block out : List ℕ)
+    (answer : Result ℕ ModeFault) (out' : List ℕ) : Type 0 where
+  pub sound :
+      (n : ℕ) → answer ≡ Ok n
+      → (message : List ℕ)
+      × ShortSealsTo f key nonce message block × (length message ≡ n) × (out' ≡ filled message)
+  pub complete :
+      (message : List ℕ) → ShortSealsTo f key nonce message block → length out ≡ 15
+      → (answer ≡ Ok (length message)) × (out' ≡ filled message)
+  pub only :
+      (m n : List ℕ) → ShortSealsTo f key nonce m block → ShortSealsTo f key nonce n block → m ≡ n

@@ -14,14 +14,15 @@ pub(crate) fn xor(a: &[u8; 32], b: &[u8; 32]) -> [u8; 32]
 // Adds as much of a block to a part of a text as the part is long.
 pub(crate) fn add(part: &mut [u8], block: &[u8; 32])
     requires { length part.old ≤ 32 }
-    ensures { (k : ℕ) → k < length part.old → slice_index part.new k ≡ bit_xor (slice_index part.old k) (slice_index block.now k) }
+    ensures { (k : ℕ) → k < length part.old
+        → slice_index part.new k ≡ bit_xor (slice_index part.old k) (slice_index block.now k) }
 {
     for (i, byte) in part.iter_mut().enumerate() {
         *byte ^= block[i];
     }
 }
 
-// Whether two blocks are the same. `==` would end at the first difference; here all bytes are looked at.
+// Whether two blocks are the same. All bytes are looked at, wherever they differ.
 pub(crate) fn same(a: &[u8; 32], b: &[u8; 32]) -> bool
     ensures yes { T result → a.now ≡ b.now }
     ensures no { a.now ≡ b.now → T result }
@@ -30,13 +31,13 @@ pub(crate) fn same(a: &[u8; 32], b: &[u8; 32]) -> bool
 }
 
 // A text, the byte 0x80, and zeros.
-pub(crate) fn pad<const N: usize>(s: &[u8]) -> [u8; N]
-    requires { length s.now < N }
-    ensures { result ≡ padded N s.now }
+pub(crate) fn pad<const N: usize>(text: &[u8]) -> [u8; N]
+    requires { length text.now < N }
+    ensures { result ≡ padded N text.now }
 {
     let mut out = [0; N];
-    let n = s.len();
-    out[..n].copy_from_slice(s);
+    let n = text.len();
+    out[..n].copy_from_slice(text);
     out[n] = 0x80;
     out
 }

@@ -7,36 +7,43 @@ use crate::counters::CounterBlock;
 use cipher::{Cipher, Parameters};
 use faults::{ModeCause, ModeFault};
 
-// Block `a` replaces the chain value `t`.
+// The chain value after a block.
 #[tactic(auto, unfolding(crate::specs::Chains::link))]
-fn link<C: Cipher>(cipher: &C, by: Parameters, t: &[u8; 32], a: &[u8; 32]) -> [u8; 32]
-    ensures { result ≡ linked (C.Cipher.forward cipher.now) by.separator by.«super_rounds» t.now a.now }
+fn link<C: Cipher>(cipher: &C, by: Parameters, value: &[u8; 32], block: &[u8; 32]) -> [u8; 32]
+    ensures { result ≡ linked (C.Cipher.forward cipher.now) by.separator by.«super_rounds»
+        value.now block.now }
 {
-    xor(a, &cipher.encrypt_block(t, by, a))
+    xor(block, &cipher.encrypt_block(value, by, block))
 }
 
-// A chain: it takes blocks by separator D, and a tail, which it holds padded, by separator LAST, with R super-rounds. That the
-// cipher stays stands in each clause: nothing is known of a part of a `&mut self` but what a clause says.
+/// A chain: a value of 32 bytes, which is the key of its next block, and a tail of 0 to 31 bytes,
+/// which it holds padded. It takes blocks by the separator BLOCKS, and the tail by TAIL.
 #[derive(Drop)]
-pub struct Chain<'a, C, const D: u8, const LAST: u8, const R: u8> {
+pub struct Chain<'a, C, const BLOCKS: u8, const TAIL: u8, const SUPER_ROUNDS: u8> {
     pub(crate) cipher: &'a C,
     pub(crate) value: [u8; 32],
     pub(crate) tail: [u8; 32],
-    ghost separators: { (D ≤ 15) × (LAST ≤ 15) },
-    ghost rounds: { (10 ≤ R) × (R ≤ 31) },
+    ghost separators: { (BLOCKS ≤ 15) × (TAIL ≤ 15) },
+    ghost rounds: { (10 ≤ SUPER_ROUNDS) × (SUPER_ROUNDS ≤ 31) },
 }
 
-// A chain that takes associated data; it is closed into a text chain.
+/// A chain that takes associated data; closing it gives a text chain.
 pub type DataChain<'a, C> = Chain<'a, C, 2, 3, 10>;
 
-// A chain that takes ciphertext, after all data; it is closed into the tag.
+/// A chain that takes ciphertext, after all data; closing it gives the tag.
 pub type TextChain<'a, C> = Chain<'a, C, 4, 5, 10>;
 
-impl<'a, C: Cipher, const D: u8, const LAST: u8, const R: u8> Chain<'a, C, D, LAST, R> {
+impl<'a, C: Cipher, const BLOCKS: u8, const TAIL: u8, const SUPER_ROUNDS: u8> Chain<
+    'a,
+    C,
+    BLOCKS,
+    TAIL,
+    SUPER_ROUNDS,
+> {
     // A chain that starts from a value, with no tail.
-    pub(crate) fn from(cipher: &'a C, value: [u8; 32]) -> Chain<'a, C, D, LAST, R>
-        requires separators { (D ≤ 15) × (LAST ≤ 15) }
-        requires rounds { (10 ≤ R) × (R ≤ 31) }
+    pub(crate) fn from(cipher: &'a C, value: [u8; 32]) -> Chain<'a, C, BLOCKS, TAIL, SUPER_ROUNDS>
+        requires separators { (BLOCKS ≤ 15) × (TAIL ≤ 15) }
+        requires rounds { (10 ≤ SUPER_ROUNDS) × (SUPER_ROUNDS ≤ 31) }
         ensures cipher { result.cipher.now ≡ cipher.now }
         ensures value { result.value ≡ value }
         ensures tail { result.tail ≡ padded 32 [] }
@@ -50,14 +57,15 @@ impl<'a, C: Cipher, const D: u8, const LAST: u8, const R: u8> Chain<'a, C, D, LA
 
     fn take(&mut self, block: &[u8; 32])
         ensures cipher { self.new.cipher.now ≡ self.old.cipher.now }
-        ensures value { self.new.value ≡ linked (C.Cipher.forward self.old.cipher.now) D R self.old.value block.now }
+        ensures value { self.new.value ≡ linked (C.Cipher.forward self.old.cipher.now) BLOCKS
+            SUPER_ROUNDS self.old.value block.now }
         ensures tail { self.new.tail ≡ self.old.tail }
     {
         self.value = link(
             self.cipher,
             Parameters {
-                separator: D,
-                super_rounds: R,
+                separator: BLOCKS,
+                super_rounds: SUPER_ROUNDS,
             },
             &self.value,
             block,
@@ -66,7 +74,8 @@ impl<'a, C: Cipher, const D: u8, const LAST: u8, const R: u8> Chain<'a, C, D, LA
 
     fn block(&mut self, bytes: &[u8]) -> Result<(), ModeFault>
         ensures cipher { self.new.cipher.now ≡ self.old.cipher.now }
-        ensures value { TakesBlock (C.Cipher.forward self.old.cipher.now) D R bytes.now self.old.value result self.new.value }
+        ensures value { TakesBlock (C.Cipher.forward self.old.cipher.now) BLOCKS SUPER_ROUNDS
+            bytes.now self.old.value result self.new.value }
         ensures tail { self.new.tail ≡ self.old.tail }
     {
         let Ok(block) = bytes.try_into() else {
@@ -91,7 +100,8 @@ impl<'a, C: Cipher, const D: u8, const LAST: u8, const R: u8> Chain<'a, C, D, LA
     // All full blocks of a text, and its tail.
     pub(crate) fn feed(&mut self, bytes: &[u8])
         ensures cipher { self.new.cipher.now ≡ self.old.cipher.now }
-        ensures value { self.new.value ≡ links (C.Cipher.forward self.old.cipher.now) D R self.old.value bytes.now (full_blocks bytes.now) }
+        ensures value { self.new.value ≡ links (C.Cipher.forward self.old.cipher.now) BLOCKS
+            SUPER_ROUNDS self.old.value bytes.now (full_blocks bytes.now) }
         ensures tail { self.new.tail ≡ padded 32 (tail_of bytes.now) }
     {
         let (blocks, tail) = bytes.as_chunks();
@@ -103,21 +113,24 @@ impl<'a, C: Cipher, const D: u8, const LAST: u8, const R: u8> Chain<'a, C, D, LA
 
     // The value after the tail.
     pub(crate) fn end(self) -> [u8; 32]
-        ensures { result ≡ linked (C.Cipher.forward self.entry.cipher.now) LAST R self.entry.value self.entry.tail }
+        ensures { result ≡ linked (C.Cipher.forward self.entry.cipher.now) TAIL SUPER_ROUNDS
+            self.entry.value self.entry.tail }
     {
         let by = Parameters {
-            separator: LAST,
-            super_rounds: R,
+            separator: TAIL,
+            super_rounds: SUPER_ROUNDS,
         };
         link(self.cipher, by, &self.value, &self.tail)
     }
 }
 
-// The calls on data and on ciphertext have names of their own, so that data for a text chain does not compile.
+// The calls on data have names of their own: a text chain has none of them.
 impl<'a, C: Cipher> DataChain<'a, C> {
+    /// A chain that begins with a key and a counter block, which is that of counter 0 for a tag.
     pub fn start(cipher: &'a C, key: &[u8; 32], counter: &CounterBlock) -> DataChain<'a, C>
         ensures cipher { result.cipher.now ≡ cipher.now }
-        ensures value { result.value ≡ linked (C.Cipher.forward cipher.now) 2 10 key.now counter.now.bytes }
+        ensures value { result.value
+            ≡ linked (C.Cipher.forward cipher.now) 2 10 key.now counter.now.bytes }
         ensures tail { result.tail ≡ padded 32 [] }
     {
         let by = Parameters {
@@ -127,14 +140,19 @@ impl<'a, C: Cipher> DataChain<'a, C> {
         Chain::from(cipher, link(cipher, by, key, &counter.bytes))
     }
 
+    /// The next 32 bytes of the data. Refused with 1 where it has another length; the chain then
+    /// stays.
     pub fn data_block(&mut self, bytes: &[u8]) -> Result<(), ModeFault>
         ensures cipher { self.new.cipher.now ≡ self.old.cipher.now }
-        ensures value { TakesBlock (C.Cipher.forward self.old.cipher.now) 2 10 bytes.now self.old.value result self.new.value }
+        ensures value { TakesBlock (C.Cipher.forward self.old.cipher.now) 2 10
+            bytes.now self.old.value result self.new.value }
         ensures tail { self.new.tail ≡ self.old.tail }
     {
         self.block(bytes)
     }
 
+    /// The last 0 to 31 bytes of the data, in place of a tail that was told before. Refused with 2
+    /// where they are more; the chain then stays.
     pub fn data_tail(&mut self, bytes: &[u8]) -> Result<(), ModeFault>
         ensures cipher { self.new.cipher.now ≡ self.old.cipher.now }
         ensures value { self.new.value ≡ self.old.value }
@@ -143,9 +161,12 @@ impl<'a, C: Cipher> DataChain<'a, C> {
         self.tail(bytes)
     }
 
+    /// The chain for the ciphertext, once the data has ended: it takes the tail, which is empty
+    /// where none was told.
     pub fn close(self) -> TextChain<'a, C>
         ensures cipher { result.cipher.now ≡ self.entry.cipher.now }
-        ensures value { result.value ≡ linked (C.Cipher.forward self.entry.cipher.now) 3 10 self.entry.value self.entry.tail }
+        ensures value { result.value ≡ linked (C.Cipher.forward self.entry.cipher.now) 3 10
+            self.entry.value self.entry.tail }
         ensures tail { result.tail ≡ padded 32 [] }
     {
         Chain::from(self.cipher, self.end())
@@ -153,14 +174,19 @@ impl<'a, C: Cipher> DataChain<'a, C> {
 }
 
 impl<C: Cipher> TextChain<'_, C> {
+    /// The next 32 bytes of the ciphertext. Refused with 1 where it has another length; the chain
+    /// then stays.
     pub fn text_block(&mut self, bytes: &[u8]) -> Result<(), ModeFault>
         ensures cipher { self.new.cipher.now ≡ self.old.cipher.now }
-        ensures value { TakesBlock (C.Cipher.forward self.old.cipher.now) 4 10 bytes.now self.old.value result self.new.value }
+        ensures value { TakesBlock (C.Cipher.forward self.old.cipher.now) 4 10
+            bytes.now self.old.value result self.new.value }
         ensures tail { self.new.tail ≡ self.old.tail }
     {
         self.block(bytes)
     }
 
+    /// The last 0 to 31 bytes of the ciphertext, in place of a tail that was told before. Refused
+    /// with 2 where they are more; the chain then stays.
     pub fn text_tail(&mut self, bytes: &[u8]) -> Result<(), ModeFault>
         ensures cipher { self.new.cipher.now ≡ self.old.cipher.now }
         ensures value { self.new.value ≡ self.old.value }
@@ -169,9 +195,10 @@ impl<C: Cipher> TextChain<'_, C> {
         self.tail(bytes)
     }
 
-    // The tag.
+    /// The tag of 32 bytes: it takes the tail, which is empty where none was told.
     pub fn close(self) -> [u8; 32]
-        ensures { result ≡ linked (C.Cipher.forward self.entry.cipher.now) 5 10 self.entry.value self.entry.tail }
+        ensures { result ≡ linked (C.Cipher.forward self.entry.cipher.now) 5 10
+            self.entry.value self.entry.tail }
     {
         self.end()
     }

@@ -14,7 +14,8 @@ pub(crate) struct Nonce<'a> {
 
 impl<'a> Nonce<'a> {
     pub(crate) fn new(bytes: &'a [u8]) -> Result<Nonce<'a>, ModeFault>
-        ensures { Checks (counter_table (length bytes.now)) (λ n. n.bytes.now ≡ bytes.now) result }
+        ensures { Checks (counter_table (length bytes.now))
+            (λ nonce. nonce.bytes.now ≡ bytes.now) result }
     {
         if bytes.len() > 20 {
             return Err(ModeCause::Limit.into());
@@ -32,15 +33,16 @@ impl<'a> Nonce<'a> {
     }
 }
 
-// A nonce with a counter: what a chain or a block of the keystream starts from.
+/// A nonce with a counter, in 32 bytes: what a chain or a block of the keystream starts from.
 #[derive(Clone, Copy)]
 pub struct CounterBlock {
     pub(crate) bytes: [u8; 32],
 }
 
 impl CounterBlock {
+    /// Refused with 2 where the nonce has over 20 bytes.
     pub fn new(nonce: &[u8], counter: u64) -> Result<CounterBlock, ModeFault>
-        ensures { Counts (λ b. b.bytes) nonce.now counter result }
+        ensures { Counts (λ block. block.bytes) nonce.now counter result }
     {
         Ok(Nonce::new(nonce)?.counted(counter))
     }

@@ -6,7 +6,8 @@ use crate::chains::Chain;
 use cipher::Cipher;
 use faults::{ModeCause, ModeFault};
 
-// The digest of at most 65,536 bytes, into a buffer of 32.
+/// The digest of a message of at most 65,536 bytes, into a buffer of 32. Refused with 1 where the
+/// buffer has another length, and with 2 where the message is longer; the buffer then stays.
 pub fn hash<C: Cipher>(cipher: &C, message: &[u8], digest: &mut [u8]) -> Result<(), ModeFault>
     ensures { Hashes (C.Cipher.forward cipher.now) message.now digest.old result digest.new }
 {
@@ -16,7 +17,8 @@ pub fn hash<C: Cipher>(cipher: &C, message: &[u8], digest: &mut [u8]) -> Result<
 }
 
 fn hashable(message: usize, digest: usize) -> Result<(), ModeFault>
-    ensures { Checks (hash_table message digest) (λ _. (digest ≡ 32) × (message ≤ 65536)) result }
+    ensures { Checks (hash_table message digest)
+        (λ _. (digest ≡ 32) × (message ≤ 65536)) result }
 {
     if digest != 32 {
         return Err(ModeCause::Length.into());

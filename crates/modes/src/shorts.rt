@@ -1,4 +1,5 @@
-ghost use Rattle.std.specs.Prelude.{◌≡◌, ℕ, ◌-◌, ◌<◌, ◌≤◌, List, ◌++◌, length, take, drop, MatchOption, ◌≢◌};
+ghost use Rattle.std.specs.Prelude.{◌≡◌, ◌≢◌, ℕ, ◌-◌, ◌<◌, ◌≤◌, List, ◌++◌, length, take, drop};
+ghost use Rattle.std.specs.Prelude.{MatchOption};
 ghost use Rattle.modes.specs.Bytes.{padded};
 ghost use Rattle.modes.specs.Short.{ShortSeals, ShortOpens, ShortOpensExactly};
 
@@ -12,11 +13,9 @@ const SHORT: Parameters = Parameters {
     super_rounds: 10,
 };
 
-// Key and nonce are handed in as slices of their own. As fields of a struct, which was tried, they were not known to be bytes.
-// That `open_short` is exact rests on it, since it turns the block back, which CTR-Cascade never does; a ghost field that says
-// so would ask it of callers.
-
-// Seals a message of at most 15 bytes under a nonce of 16 into a block of 32.
+/// Seals a message of at most 15 bytes under a key of 32 and a nonce of 16 into a block of 32.
+/// Refused with 1 where key, nonce or block have another length, and with 2 where the message is
+/// longer; the block then stays.
 pub fn seal_short<C: TwoWayCipher>(
     cipher: &C,
     key: &[u8],
@@ -24,7 +23,8 @@ pub fn seal_short<C: TwoWayCipher>(
     message: &[u8],
     block: &mut [u8],
 ) -> Result<(), ModeFault>
-    ensures { ShortSeals (C.Cipher.forward cipher.now) key.now nonce.now message.now block.old result block.new }
+    ensures { ShortSeals (C.Cipher.forward cipher.now) key.now nonce.now message.now block.old
+        result block.new }
 {
     let (Ok(key), Ok(nonce)) = (key.try_into(), nonce.try_into()) else {
         return Err(ModeCause::Length.into());
@@ -40,8 +40,9 @@ pub fn seal_short<C: TwoWayCipher>(
     Ok(())
 }
 
-// Opens a block into a buffer of 15 bytes: the message, then zeros; its length is the answer. A block with another nonce or
-// no padding makes the buffer zero.
+/// Opens a block into a buffer of 15 bytes: the message, then zeros; its length is the answer.
+/// Refused with 1 where key, nonce, block or buffer have another length, and the buffer then stays;
+/// and with 12 where the block holds another nonce or no padding, and the buffer then becomes zero.
 pub fn open_short<C: TwoWayCipher>(
     cipher: &C,
     key: &[u8],
@@ -49,8 +50,10 @@ pub fn open_short<C: TwoWayCipher>(
     block: &[u8],
     out: &mut [u8],
 ) -> Result<usize, ModeFault>
-    ensures opens { ShortOpens (C.TwoWayCipher.back cipher.now) key.now nonce.now block.now out.old result out.new }
-    ensures exactly { ShortOpensExactly (C.Cipher.forward cipher.now) key.now nonce.now block.now out.old result out.new }
+    ensures opens { ShortOpens (C.TwoWayCipher.back cipher.now) key.now nonce.now block.now out.old
+        result out.new }
+    ensures exactly { ShortOpensExactly (C.Cipher.forward cipher.now) key.now nonce.now block.now
+        out.old result out.new }
 {
     opened(cipher, key, nonce, block, out)
 }
@@ -63,7 +66,8 @@ fn opened<C: TwoWayCipher>(
     block: &[u8],
     out: &mut [u8],
 ) -> Result<usize, ModeFault>
-    ensures { ShortOpens (C.TwoWayCipher.back cipher.now) key.now nonce.now block.now out.old result out.new }
+    ensures { ShortOpens (C.TwoWayCipher.back cipher.now) key.now nonce.now block.now out.old
+        result out.new }
 {
     let (Ok(key), Ok(nonce), Ok(block)) = (key.try_into(), nonce.try_into(), block.try_into())
     else {
@@ -102,11 +106,12 @@ fn message_length(nonce: &[u8; 16], plain: &[u8; 32]) -> Option<usize>
 }
 
 // Where the padding byte stands, with only zeros after it.
-fn padding(s: &[u8]) -> Option<usize>
+fn padding(bytes: &[u8]) -> Option<usize>
     ensures { MatchOption result
-        ((m : List ℕ) → length m < length s.now → s.now ≢ padded (length s.now) m)
-        (λ n. (n < length s.now) × (s.now ≡ padded (length s.now) (take n s.now))) }
+        ((m : List ℕ) → length m < length bytes.now → bytes.now ≢ padded (length bytes.now) m)
+        (λ n. (n < length bytes.now)
+        × (bytes.now ≡ padded (length bytes.now) (take n bytes.now))) }
 {
-    let n = s.iter().rposition(|b| *b != 0)?;
-    (s[n] == 0x80).then_some(n)
+    let n = bytes.iter().rposition(|b| *b != 0)?;
+    (bytes[n] == 0x80).then_some(n)
 }

@@ -29,20 +29,17 @@ impl NumbersOut {
 
     /// Whether a number is out.
     pub fn has(&self, number: u64) -> bool
-        ensures {
-            MatchBool result
+        ensures { MatchBool result
             (0 < count number (listed self.now))
-            (count number (listed self.now) ≡ 0)
-        }
+            (count number (listed self.now) ≡ 0) }
     {
         self.items.contains(&number)
     }
 
     /// Adds a number at the end; where sixteen are out, all stays as it was.
     pub fn add(&mut self, number: u64)
-        ensures room {
-            length (listed self.old) < 16 → listed self.new ≡ listed self.old ++ (number ∷ [])
-        }
+        ensures room { length (listed self.old) < 16
+            → listed self.new ≡ listed self.old ++ (number ∷ []) }
         ensures full { 16 ≤ length (listed self.old) → self.new ≡ self.old }
     {
         if !self.items.is_full() {

@@ -1,6 +1,7 @@
 ghost use Rattle.std.specs.Prelude.{◌≡◌, ◌≢◌, ◌<◌, ◌≤◌, ◌++◌, length, MatchBool, MatchOption};
 ghost use Rattle.octets.specs.Octets.{zeros, big_endian, part as part_of};
-ghost use Rattle.records.specs.Records.{empty, nonce_in, number_in, head_in, label_in, length_in, text_in, filling_in, tag_in, text_at, text_room};
+ghost use Rattle.records.specs.Records.{empty, nonce_in, number_in, head_in, label_in, length_in};
+ghost use Rattle.records.specs.Records.{text_in, filling_in, tag_in, text_at, text_room};
 
 use crate::layout::{HEAD_AT, LENGTH_AT, NUMBER_AT, TAG_AT, TEXT_AT, TEXT_ROOM, part};
 

@@ -57,7 +57,7 @@ one_bit s i k h l =
 
 pub to-from : (s : List ℕ) → Good s → to_cube (from_cube s) ≡ s
 unfolding to_cube
-to-from s h = cube_is _ s h (λ i l.
+to-from s h = cube_is _ s h.long (λ i l.
     rw (one_bit s i 0 l (lit< tt), one_bit s i 1 l (lit< tt), one_bit s i 2 l (lit< tt), one_bit s i 3 l (lit< tt)) (nibble_bits (at s i) (h.small i l)))
 
 -- thirty-two bytes are back where they were

@@ -1,15 +1,15 @@
 -- Every step of a round keeps 64 nibbles, and is undone by its inverse.
 use Rattle.std.proofs.Common.{◌≡◌, ℕ, ◌+◌, ◌*◌, ◌/◌, ◌%◌, ◌<◌, Bool, true, false, cond, T, eqb, ltb, List, [], ◌∷◌, length, sym, refl, ap, ◌∙◌, subst, ap₂, add-zero, arith, lit<, ltb→lt}
 use lib.Bits.{bit_xor, xor_assoc, xor_comm, xor_self, xor_zero_r, xor_lt}
-use Rattle.std.proofs.lemmas.List.{ext_get_or}
 use Rattle.saturnin.specs.Bits.{bit, nibble}
 use Rattle.octets.specs.Lists.{at}
 use Rattle.saturnin.specs.Cube.{cube}
 use Rattle.saturnin.specs.Layers.{σ₀, σ₁, S, slice_to, slice_from, SR_slice, SR_slice⁻¹, sheet_to, sheet_from, SR_sheet, SR_sheet⁻¹, SR, SR⁻¹, α, M_row, MC, add}
+use Rattle.saturnin.specs.Shifts.{Moves, Undoes}
 use Rattle.saturnin.specs.Rounds.{constants, rotated}
 use Rattle.saturnin.specs.Back.{σ₀⁻¹, σ₁⁻¹, S⁻¹, α⁻¹, M⁻¹_row, MC⁻¹}
 use Rattle.saturnin.proofs.Bits.{below, at_below, same_below, bit_lt}
-use Rattle.octets.proofs.Tables.{at_table, same_table, length-table}
+use Rattle.octets.proofs.Tables.{at_table, same_table, length-table, is_table}
 use Rattle.saturnin.proofs.Numbers.{four}
 use Rattle.saturnin.proofs.Matrix.{row0, row1, row2, row3}
 
@@ -21,9 +21,8 @@ pub record Good (s : List ℕ) : Type 0 where
 pub good_cube : (f : ℕ → ℕ) → ((i : ℕ) → i < 64 → f i < 16) → Good (cube f)
 good_cube f h = record { long = length-table 64 f; small = λ i l. rw (at_table 64 f i l) (h i l) }
 
-pub cube_is : (f : ℕ → ℕ) (s : List ℕ) → Good s → ((i : ℕ) → i < 64 → f i ≡ at s i) → cube f ≡ s
-cube_is f s g e =
-    ext_get_or 0 (cube f) s (length-table 64 f ∙ sym g.long) (λ i h. let l : i < 64 = omega (arith, length-table 64 f) in at_table 64 f i l ∙ e i l)
+pub cube_is : (f : ℕ → ℕ) (s : List ℕ) → length s ≡ 64 → ((i : ℕ) → i < 64 → f i ≡ at s i) → cube f ≡ s
+cube_is f s l e = sym (is_table 64 f s l (λ i h. sym (e i h)))
 
 below_16 : (f : ℕ → ℕ) → T (below (λ v. ltb (f v) 16) 16) → (v : ℕ) → v < 16 → f v < 16
 below_16 f t v h = ltb→lt (f v) 16 (at_below (λ v. ltb (f v) 16) 16 t v h)
@@ -48,7 +47,7 @@ module _ (f g f' g' : ℕ → ℕ)
 
   boxes_undone : (s t : List ℕ) → Good s → t ≡ cube (λ i. cond (eqb (i % 2) 0) (f (at s i)) (g (at s i)))
       → cube (λ i. cond (eqb (i % 2) 0) (f' (at t i)) (g' (at t i))) ≡ s
-  boxes_undone s t h e = cube_is _ s h (λ i l.
+  boxes_undone s t h e = cube_is _ s h.long (λ i l.
       let q : at t i ≡ cond (eqb (i % 2) 0) (f (at s i)) (g (at s i)) = ap (λ v. at v i) e ∙ at_table 64 _ i l in
       ap (λ v. cond (eqb (i % 2) 0) (f' v) (g' v)) q ∙ pair (eqb (i % 2) 0) (at s i) (h.small i l))
 
@@ -76,8 +75,11 @@ module _ (p q : ℕ → ℕ) (tq : T (below (λ i. ltb (q i) 64) 64)) where
   moved_good : (s : List ℕ) → Good s → Good (cube (λ i. at s (q i)))
   moved_good s h = good_cube _ (λ i l. h.small (q i) (in-range i l))
 
-  moved_back : T (below (λ i. eqb (p (q i)) i) 64) → (s : List ℕ) → Good s → cube (λ i. at (cube (λ j. at s (p j))) (q i)) ≡ s
-  moved_back t s h = cube_is _ s h (λ i l. at_table 64 (λ j. at s (p j)) (q i) (in-range i l) ∙ ap (at s) (same_below (λ i. p (q i)) (λ i. i) 64 t i l))
+  moves : T (below (λ i. eqb (p (q i)) i) 64) → Moves (λ s. cube (λ i. at s (p i))) q
+  moves t s i h = at_table 64 (λ j. at s (p j)) (q i) (in-range i h) ∙ ap (at s) (same_below (λ i. p (q i)) (λ i. i) 64 t i h)
+
+  moved_back : T (below (λ i. eqb (p (q i)) i) 64) → Undoes (λ s. cube (λ i. at s (q i))) (λ s. cube (λ i. at s (p i)))
+  moved_back t s l = cube_is _ s l (moves t s)
 
 pub slice_good : (s : List ℕ) → Good s → Good (SR_slice s)
 unfolding SR_slice
@@ -99,19 +101,27 @@ pub rotated_good : (s : List ℕ) → Good s → Good (rotated s)
 unfolding rotated
 rotated_good = moved_good (λ i. i) (λ i. (i + 20) % 64) tt
 
-pub slice_undone : (s : List ℕ) → Good s → SR_slice⁻¹ (SR_slice s) ≡ s
+pub slices_move : Moves SR_slice slice_to
+unfolding SR_slice
+slices_move = moves slice_from slice_to tt tt
+
+slice_undone : Undoes SR_slice⁻¹ SR_slice
 unfolding SR_slice SR_slice⁻¹
 slice_undone = moved_back slice_from slice_to tt tt
 
-pub slice_redone : (s : List ℕ) → Good s → SR_slice (SR_slice⁻¹ s) ≡ s
+slice_redone : Undoes SR_slice SR_slice⁻¹
 unfolding SR_slice SR_slice⁻¹
 slice_redone = moved_back slice_to slice_from tt tt
 
-pub sheet_undone : (s : List ℕ) → Good s → SR_sheet⁻¹ (SR_sheet s) ≡ s
+pub sheets_move : Moves SR_sheet sheet_to
+unfolding SR_sheet
+sheets_move = moves sheet_from sheet_to tt tt
+
+sheet_undone : Undoes SR_sheet⁻¹ SR_sheet
 unfolding SR_sheet SR_sheet⁻¹
 sheet_undone = moved_back sheet_from sheet_to tt tt
 
-pub sheet_redone : (s : List ℕ) → Good s → SR_sheet (SR_sheet⁻¹ s) ≡ s
+sheet_redone : Undoes SR_sheet SR_sheet⁻¹
 unfolding SR_sheet SR_sheet⁻¹
 sheet_redone = moved_back sheet_to sheet_from tt tt
 
@@ -133,7 +143,7 @@ pub SR⁻¹_good : (r : ℕ) (s : List ℕ) → Good s → Good (SR⁻¹ r s)
 unfolding SR⁻¹
 SR⁻¹_good r s h = by_shift Good r _ _ _ (slice⁻¹_good s h) (sheet⁻¹_good s h) h
 
-pub SR_undone : (r : ℕ) (s : List ℕ) → Good s → SR⁻¹ r (SR r s) ≡ s
+pub SR_undone : (r : ℕ) → Undoes (SR⁻¹ r) (SR r)
 unfolding SR SR⁻¹
 SR_undone r s h = go (eqb (r % 4) 1) (eqb (r % 4) 3)
   where
@@ -142,7 +152,7 @@ SR_undone r s h = go (eqb (r % 4) 1) (eqb (r % 4) 3)
     go false true = sheet_undone s h
     go false false = refl
 
-pub SR_redone : (r : ℕ) (s : List ℕ) → Good s → SR r (SR⁻¹ r s) ≡ s
+pub SR_redone : (r : ℕ) → Undoes (SR r) (SR⁻¹ r)
 unfolding SR SR⁻¹
 SR_redone r s h = go (eqb (r % 4) 1) (eqb (r % 4) 3)
   where
@@ -161,7 +171,7 @@ add_good k s g h = good_cube _ (λ i l. xor_lt 4 (at s i) (at k i) (h.small i l)
 
 pub add_undone : (k s : List ℕ) → Good s → add k (add k s) ≡ s
 unfolding add
-add_undone k s h = cube_is _ s h (λ i l. ap (λ v. bit_xor v (at k i)) (at_table 64 (λ j. bit_xor (at s j) (at k j)) i l) ∙ cancel (at s i) (at k i))
+add_undone k s h = cube_is _ s h.long (λ i l. ap (λ v. bit_xor v (at k i)) (at_table 64 (λ j. bit_xor (at s j) (at k j)) i l) ∙ cancel (at s i) (at k i))
 
 spot_lt : (x y : ℕ) → x < 2 → y < 2 → (k : ℕ) → k < 4 → at (x ∷ 0 ∷ y ∷ 0 ∷ []) k < 16
 spot_lt x y hx hy = four (λ k. at (x ∷ 0 ∷ y ∷ 0 ∷ []) k < 16) (omega arith) (lit< tt) (omega arith) (lit< tt)
@@ -288,7 +298,7 @@ module _ (F G : ℕ → ℕ → ℕ → ℕ → ℕ → ℕ)
 
   columns_undone : (s t : List ℕ) → Good s → t ≡ cube (λ i. F (i % 4) (at s (4 * (i / 4))) (at s (4 * (i / 4) + 1)) (at s (4 * (i / 4) + 2)) (at s (4 * (i / 4) + 3)))
       → cube (λ i. G (i % 4) (at t (4 * (i / 4))) (at t (4 * (i / 4) + 1)) (at t (4 * (i / 4) + 2)) (at t (4 * (i / 4) + 3))) ≡ s
-  columns_undone s t h e = cube_is _ s h (λ i l.
+  columns_undone s t h e = cube_is _ s h.long (λ i l.
       let b : ℕ = i / 4 in
       let lb : b < 16 = omega arith in
       let t0 : at t (4 * b) ≡ F 0 (at s (4 * b)) (at s (4 * b + 1)) (at s (4 * b + 2)) (at s (4 * b + 3)) = ap₂ at e (sym (add-zero (4 * b))) ∙ at_col s b 0 lb (lit< tt) in

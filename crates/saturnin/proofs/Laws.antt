@@ -1,11 +1,13 @@
--- The cipher gives blocks, and back undoes forward.
-use Rattle.std.proofs.Common.{◌≡◌, ℕ, zero, suc, ◌*◌, ◌/◌, ◌%◌, Bool, true, false, cond, eqb, List, sym, refl, ap, ◌∙◌}
+-- The cipher gives blocks, back undoes forward, and each shift takes its nibbles where it should.
+use Rattle.std.proofs.Common.{◌≡◌, ℕ, zero, suc, ◌*◌, ◌/◌, ◌%◌, Bool, true, false, cond, eqb, List, sym, refl, ap, ◌∙◌, arith}
+use Rattle.std.proofs.lemmas.Bool.{eq-eqb, ne_eqb}
 use Rattle.saturnin.specs.Cube.{Cube, to_cube}
-use Rattle.saturnin.specs.Layers.{S, SR, SR⁻¹, MC, add}
+use Rattle.saturnin.specs.Layers.{S, slice_to, sheet_to, SR, SR⁻¹, MC, add}
 use Rattle.saturnin.specs.Rounds.{RC₀, RC₁, constants, rotated, round_key, add_subkey, round, rounds, forward}
 use Rattle.saturnin.specs.Back.{MC⁻¹, round⁻¹, rounds⁻¹, back}
 use Rattle.cipher.specs.Meaning.{Bytes, GivesBlocks, TwoWay}
-use Rattle.saturnin.proofs.Inverse.{Good, S_good, S⁻¹_good, S_undone, S_redone, SR_good, SR⁻¹_good, SR_undone, SR_redone, rotated_good, add_good, add_undone, constants_good, MC_good, MC⁻¹_good, MC_undone, MC_redone}
+use Rattle.saturnin.specs.Shifts.{Moves, ShiftsMove}
+use Rattle.saturnin.proofs.Inverse.{Good, slices_move, sheets_move, S_good, S⁻¹_good, S_undone, S_redone, SR_good, SR⁻¹_good, SR_undone, SR_redone, rotated_good, add_good, add_undone, constants_good, MC_good, MC⁻¹_good, MC_undone, MC_redone}
 use Rattle.saturnin.proofs.Conversions.{to-cube-good, from-cube-bytes, to-from, from-to}
 
 module _ (k : Cube) (gk : Good k) (D R : ℕ) where
@@ -57,7 +59,7 @@ module _ (k : Cube) (gk : Good k) (D R : ℕ) where
     unfolding round round⁻¹
     round_undone =
         let p : Good (SR r (S s)) = SR_good r _ (S_good s h) in
-        rw (added_undone r _ middle_good, SR_redone r _ (MC_good _ p), MC_undone _ p, SR_undone r _ (S_good s h), S_undone s h)
+        rw (added_undone r _ middle_good, SR_redone r _ (MC_good _ p).long, MC_undone _ p, SR_undone r _ (S_good s h).long, S_undone s h)
 
   module _ (r : ℕ) (s : Cube) (h : Good s) where
     round⁻¹_good : Good (round⁻¹ k D R r s)
@@ -69,7 +71,7 @@ module _ (k : Cube) (gk : Good k) (D R : ℕ) where
     round_redone =
         let a : Good (add_subkey k D R r s) = added_good r s h in
         let p : Good (SR r (add_subkey k D R r s)) = SR_good r _ a in
-        rw (S_redone _ (middle⁻¹_good r _ a), SR_redone r _ (MC⁻¹_good _ p), MC_redone _ p, SR_undone r _ a, added_undone r s h)
+        rw (S_redone _ (middle⁻¹_good r _ a), SR_redone r _ (MC⁻¹_good _ p).long, MC_redone _ p, SR_undone r _ a.long, added_undone r s h)
 
   rounds_good : (n : ℕ) (s : Cube) → Good s → Good (rounds k D R n s)
   unfolding rounds
@@ -114,8 +116,25 @@ forward_back key D R b h =
 
 pub forward-two_way : TwoWay forward back
 unfolding back
-forward-two_way = record {
-  gives_blocks = λ key D R block h. from-cube-bytes _;
-  forward_back = λ key D R block h. forward_back key D R block h.block_whole;
-  only = λ key D R block given h e. sym (back-forward key D R block h.block_whole) ∙ ap (back key D R) e;
+forward-two_way key D R given h = record {
+  whole = from-cube-bytes _;
+  goes_there = forward_back key D R given h.block_whole;
+  only = λ other b e. sym (back-forward key D R other b) ∙ ap (back key D R) e;
 }
+
+-- the shift of round r by r mod 4
+module _ (r : ℕ) where
+  even : r % 2 ≡ 0 → Moves (SR r) (λ i. i)
+  unfolding SR
+  even e s i h = rw (ne_eqb (r % 4) 1 (λ q. omega arith), ne_eqb (r % 4) 3 (λ q. omega arith))
+
+  one : r % 4 ≡ 1 → Moves (SR r) slice_to
+  unfolding SR
+  one e s i h = rw (eq-eqb (r % 4) 1 e) (slices_move s i h)
+
+  three : r % 4 ≡ 3 → Moves (SR r) sheet_to
+  unfolding SR
+  three e s i h = rw (ne_eqb (r % 4) 1 (λ q. omega arith), eq-eqb (r % 4) 3 e) (sheets_move s i h)
+
+pub shifts-move : ShiftsMove
+shifts-move r = record { none = even r; slices = one r; sheets = three r; undone = SR_undone r }

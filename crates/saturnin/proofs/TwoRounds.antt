@@ -38,18 +38,18 @@ module _ (k : Cube) (D R : ℕ) where
     back_is : (s : Cube) → SR⁻¹ (2 * i + 1) s ≡ back s
     key_is : round_key k (2 * i + 1) ≡ key
 
-  pub slices : (i : ℕ) → i % 2 ≡ 0 → Second i SR_slice SR_slice⁻¹ (rotated k)
+  pub slice_shift : (i : ℕ) → i % 2 ≡ 0 → Second i SR_slice SR_slice⁻¹ (rotated k)
   unfolding SR SR⁻¹ round_key
-  slices i e =
+  slice_shift i e =
       let one : (2 * i + 1) % 4 ≡ 1 = omega arith in record {
         there_is = λ s. rw (eq-eqb ((2 * i + 1) % 4) 1 one);
         back_is = λ s. rw (eq-eqb ((2 * i + 1) % 4) 1 one);
         key_is = rw (ne_eqb ((2 * i + 1) % 4) 3 (λ q. omega arith));
       }
 
-  pub sheets : (i : ℕ) → i % 2 ≡ 1 → Second i SR_sheet SR_sheet⁻¹ k
+  pub sheet_shift : (i : ℕ) → i % 2 ≡ 1 → Second i SR_sheet SR_sheet⁻¹ k
   unfolding SR SR⁻¹ round_key
-  sheets i e =
+  sheet_shift i e =
       let three : (2 * i + 1) % 4 ≡ 3 = omega arith in record {
         there_is = λ s. rw (ne_eqb ((2 * i + 1) % 4) 1 (λ q. omega arith), eq-eqb ((2 * i + 1) % 4) 3 three);
         back_is = λ s. rw (ne_eqb ((2 * i + 1) % 4) 1 (λ q. omega arith), eq-eqb ((2 * i + 1) % 4) 3 three);

@@ -1,5 +1,4 @@
--- The cipher turned back, step by step. The law above it is `TwoWay` of `Meaning`: back gives the only block that forward
--- takes to the given one.
+-- The cipher turned back, step by step.
 use Rattle.std.specs.Prelude.{ℕ, zero, suc, ◌+◌, ◌*◌, ◌/◌, ◌%◌, cond, List, [], ◌∷◌, ◌==◌, bit_xor}
 use Rattle.saturnin.specs.Bits.{bit, nibble}
 use Rattle.octets.specs.Lists.{at}
@@ -31,7 +30,9 @@ M⁻¹_row y a b c d =
     at (bit_xor a₁ b₂ ∷ b₂ ∷ bit_xor c₁ d₂ ∷ d₂ ∷ []) y
 
 unfoldable pub MC⁻¹ : Cube → Cube
-MC⁻¹ s = cube (λ i. let p : ℕ = 4 * (i / 4) in M⁻¹_row (i % 4) (at s p) (at s (p + 1)) (at s (p + 2)) (at s (p + 3)))
+MC⁻¹ s = cube (λ i.
+    let p : ℕ = 4 * (i / 4) in
+    M⁻¹_row (i % 4) (at s p) (at s (p + 1)) (at s (p + 2)) (at s (p + 3)))
 
 -- round r undone; adding the sub-key once more takes it away
 unfoldable pub round⁻¹ : (k : Cube) (D R r : ℕ) → Cube → Cube
@@ -43,4 +44,6 @@ rounds⁻¹ k D R zero s = s
 rounds⁻¹ k D R (suc n) s = rounds⁻¹ k D R n (round⁻¹ k D R n s)
 
 unfoldable pub back : (key : List ℕ) (D R : ℕ) (block : List ℕ) → List ℕ
-back key D R block = let k : Cube = to_cube key in from_cube (add k (rounds⁻¹ k D R (2 * R) (to_cube block)))
+back key D R block =
+    let k : Cube = to_cube key in
+    from_cube (add k (rounds⁻¹ k D R (2 * R) (to_cube block)))

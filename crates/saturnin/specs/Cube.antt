@@ -1,5 +1,5 @@
--- A block, a key or a state, in its representations: 32 bytes, sixteen 16-bit registers, eight 32-bit words, and the cube of
--- 4 by 4 by 4 nibbles.
+-- A block, a key or a state, in its representations: 32 bytes, sixteen 16-bit registers, eight
+-- 32-bit words, and the cube of 4 by 4 by 4 nibbles.
 use Rattle.std.specs.Prelude.{ℕ, ◌+◌, ◌*◌, ◌/◌, ◌%◌, List, [], ◌∷◌}
 use Rattle.octets.specs.Lists.{at, table}
 use Rattle.saturnin.specs.Bits.{bit, nibble, number}
@@ -42,4 +42,5 @@ unfoldable pub cube_register : Cube → (g : ℕ) → ℕ
 cube_register s g = number (λ b. bit (at s (g / 4 + 4 * b)) (g % 4)) 16
 
 unfoldable pub from_cube : Cube → List ℕ
-from_cube s = table 32 (λ m. at (cube_register s (m / 2) % 256 ∷ cube_register s (m / 2) / 256 ∷ []) (m % 2))
+from_cube s = table 32 (λ m.
+    at (cube_register s (m / 2) % 256 ∷ cube_register s (m / 2) / 256 ∷ []) (m % 2))

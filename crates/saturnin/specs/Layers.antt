@@ -14,7 +14,8 @@ unfoldable pub σ₁ : ℕ → ℕ
 unfoldable pub S : Cube → Cube
 S s = cube (λ i. cond (i % 2 == 0) (σ₀ (at s i)) (σ₁ (at s i)))
 
--- the shift in each slice takes nibble (x, y, z) to (x + y mod 4, y, z), and the way back is from there
+-- the shift in each slice takes nibble (x, y, z) to (x + y mod 4, y, z), and the way back takes it
+-- from there
 abbrev pub slice_to : ℕ → ℕ
 slice_to i = index ((x_of i + y_of i) % 4) (y_of i) (z_of i)
 
@@ -27,7 +28,8 @@ SR_slice s = cube (λ i. at s (slice_from i))
 unfoldable pub SR_slice⁻¹ : Cube → Cube
 SR_slice⁻¹ s = cube (λ i. at s (slice_to i))
 
--- the shift in each sheet takes nibble (x, y, z) to (x, y, z + y mod 4), and the way back is from there
+-- the shift in each sheet takes nibble (x, y, z) to (x, y, z + y mod 4), and the way back takes it
+-- from there
 abbrev pub sheet_to : ℕ → ℕ
 sheet_to i = index (x_of i) (y_of i) ((z_of i + y_of i) % 4)
 
@@ -40,7 +42,8 @@ SR_sheet s = cube (λ i. at s (sheet_from i))
 unfoldable pub SR_sheet⁻¹ : Cube → Cube
 SR_sheet⁻¹ s = cube (λ i. at s (sheet_to i))
 
--- the shift of round r: in slices where r mod 4 is 1, in sheets where it is 3, and none in even rounds
+-- the shift of round r: in slices where r mod 4 is 1, in sheets where it is 3, and none in even
+-- rounds
 unfoldable pub SR : (r : ℕ) → Cube → Cube
 SR r s = cond (r % 4 == 1) (SR_slice s) (cond (r % 4 == 3) (SR_sheet s) s)
 
@@ -70,7 +73,9 @@ M_row y a b c d = at (
 
 -- M on every column; the column of nibble i is the four nibbles from 4 (i div 4) on
 unfoldable pub MC : Cube → Cube
-MC s = cube (λ i. let p : ℕ = 4 * (i / 4) in M_row (i % 4) (at s p) (at s (p + 1)) (at s (p + 2)) (at s (p + 3)))
+MC s = cube (λ i.
+    let p : ℕ = 4 * (i / 4) in
+    M_row (i % 4) (at s p) (at s (p + 1)) (at s (p + 2)) (at s (p + 3)))
 
 -- XOR of two cubes
 unfoldable pub add : Cube → Cube → Cube

@@ -1,5 +1,6 @@
 -- The round constants, the sub-keys, the rounds, and the cipher.
-use Rattle.std.specs.Prelude.{ℕ, zero, suc, ◌+◌, ◌*◌, ◌/◌, ◌%◌, cond, List, [], ◌∷◌, ◌==◌, bit_xor, nat_lt}
+use Rattle.std.specs.Prelude.{ℕ, zero, suc, ◌+◌, ◌*◌, ◌/◌, ◌%◌, cond, List, [], ◌∷◌, ◌==◌}
+use Rattle.std.specs.Prelude.{bit_xor, nat_lt}
 use Rattle.saturnin.specs.Bits.{bit}
 use Rattle.octets.specs.Lists.{at}
 use Rattle.saturnin.specs.Cube.{Cube, cube, to_cube, from_cube}
@@ -37,9 +38,11 @@ rotated k = cube (λ i. at k ((i + 20) % 64))
 unfoldable pub round_key : (k : Cube) (r : ℕ) → Cube
 round_key k r = cond (r % 4 == 3) k (rotated k)
 
--- odd round r, the second of super-round r div 2, adds its constants and its key; an even round adds nothing
+-- odd round r, the second of super-round r div 2, adds its constants and its key; an even round
+-- adds nothing
 unfoldable pub add_subkey : (k : Cube) (D R r : ℕ) → Cube → Cube
-add_subkey k D R r s = cond (r % 2 == 0) s (add (add (constants (RC₀ D R (r / 2)) (RC₁ D R (r / 2))) (round_key k r)) s)
+add_subkey k D R r s = cond (r % 2 == 0) s
+    (add (add (constants (RC₀ D R (r / 2)) (RC₁ D R (r / 2))) (round_key k r)) s)
 
 unfoldable pub round : (k : Cube) (D R r : ℕ) → Cube → Cube
 round k D R r s = add_subkey k D R r (SR⁻¹ r (MC (SR r (S s))))
@@ -51,4 +54,6 @@ rounds k D R (suc n) s = round k D R n (rounds k D R n s)
 
 -- the cipher: the key is added, and then come R super-rounds
 unfoldable pub forward : (key : List ℕ) (D R : ℕ) (block : List ℕ) → List ℕ
-forward key D R block = let k : Cube = to_cube key in from_cube (rounds k D R (2 * R) (add k (to_cube block)))
+forward key D R block =
+    let k : Cube = to_cube key in
+    from_cube (rounds k D R (2 * R) (add k (to_cube block)))

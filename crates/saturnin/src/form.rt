@@ -7,48 +7,60 @@ ghost use Rattle.saturnin.specs.Rounds.{constants, rotated};
 use crate::schedule::RoundConstants;
 use std::ops::BitXor;
 
-// A form of the cube: what holds one, and the layers of the cipher on it. The rounds are written once, over any form.
+/// A form of the cube: what holds one, and the layers of the cipher on it.
 pub trait Form: Copy + BitXor<Output = Self> {
     ghost cube: { Self → Cube };
 
+    /// The cube of 32 bytes.
     fn load(block: &[u8; 32]) -> Self
         ensures { cube result ≡ to_cube block.now };
 
+    /// The 32 bytes of the cube.
     fn store(self) -> [u8; 32]
         ensures { result ≡ from_cube (cube self) };
 
-    // A layer and the way back from it have definitions of their own, so each is a function of its own.
+    /// Every nibble through its S-box.
     fn s_boxes(self) -> Self
         ensures { cube result ≡ S (cube self) };
 
+    /// `s_boxes` undone.
     fn s_boxes_back(self) -> Self
         ensures { cube result ≡ S⁻¹ (cube self) };
 
+    /// The matrix M on every column.
     fn columns(self) -> Self
         ensures { cube result ≡ MC (cube self) };
 
+    /// `columns` undone.
     fn columns_back(self) -> Self
         ensures { cube result ≡ MC⁻¹ (cube self) };
 
-    fn slices(self) -> Self
+    /// Nibble (x, y, z) to (x + y mod 4, y, z).
+    fn shift_slices(self) -> Self
         ensures { cube result ≡ SR_slice (cube self) };
 
-    fn slices_back(self) -> Self
+    /// `shift_slices` undone.
+    fn shift_slices_back(self) -> Self
         ensures { cube result ≡ SR_slice⁻¹ (cube self) };
 
-    fn sheets(self) -> Self
+    /// Nibble (x, y, z) to (x, y, z + y mod 4).
+    fn shift_sheets(self) -> Self
         ensures { cube result ≡ SR_sheet (cube self) };
 
-    fn sheets_back(self) -> Self
+    /// `shift_sheets` undone.
+    fn shift_sheets_back(self) -> Self
         ensures { cube result ≡ SR_sheet⁻¹ (cube self) };
 
+    /// The rotated key: nibble i from nibble i + 20 mod 64.
     fn rotated(self) -> Self
         ensures { cube result ≡ rotated (cube self) };
 
+    /// The two constants of a super-round added.
     fn plus_constants(self, c: RoundConstants) -> Self
         ensures { cube result ≡ add (constants c.0 c.1) (cube self) };
 
     ghost can_add: { (s key : Self) → Self.can_bitxor s key };
 
-    ghost adds: { (s key sum : Self) → Self.bitxor_gives s key sum → cube sum ≡ add (cube key) (cube s) };
+    ghost adds: { (s key sum : Self) → Self.bitxor_gives s key sum
+        → cube sum ≡ add (cube key) (cube s) };
 }

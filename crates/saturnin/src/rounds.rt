@@ -6,58 +6,61 @@ ghost use Rattle.saturnin.specs.TwoRounds.{super_round as super_round_of, super_
 
 use crate::form::Form;
 use crate::schedule::{Constants, RoundConstants};
-use crate::shifts::{Sheets, Shift, Slices};
+use crate::shifts::{Shift, ShiftSheets, ShiftSlices};
 
-// Forward and back are the same walk by other steps, whose contracts name other definitions: one function over both would be no
-// plainer. Constants, key and block are what one call is handed: a struct of them would be made for that call and taken apart
-// again in it.
-
-// The block that the cipher gives, worked in a form.
+/// The block that the cipher gives under a key of 32 bytes, worked in a form of the cube.
 #[tactic(auto, unfolding(crate::specs::Rounds::forward))]
 pub fn encrypted<F: Form>(constants: Constants, key: &[u8; 32], block: &[u8; 32]) -> [u8; 32]
-    ensures { result ≡ forward key.now constants.entry.of.separator constants.entry.of.«super_rounds» block.now }
+    ensures { result ≡ forward key.now constants.entry.of.separator
+        constants.entry.of.«super_rounds» block.now }
 {
     rounds(constants, F::load(key), F::load(block)).store()
 }
 
-// The block that the cipher takes to the given one.
+/// The block that the cipher takes to the given one.
 #[tactic(auto, unfolding(crate::specs::Back::back))]
 pub fn decrypted<F: Form>(constants: Constants, key: &[u8; 32], block: &[u8; 32]) -> [u8; 32]
-    ensures { result ≡ back key.now constants.entry.of.separator constants.entry.of.«super_rounds» block.now }
+    ensures { result ≡ back key.now constants.entry.of.separator
+        constants.entry.of.«super_rounds» block.now }
 {
     rounds_back(constants, F::load(key), F::load(block)).store()
 }
 
-// The key is added, and then come the super-rounds. They shift in slices and in sheets by turns, so they go in pairs; with an
-// odd count one is left over.
+// The key is added, and then come the super-rounds. They shift in slices and in sheets by turns, so
+// they go in pairs; with an odd count one is left over.
 fn rounds<F: Form>(constants: Constants, key: F, block: F) -> F
-    ensures { let by = constants.entry.of in F.cube result ≡ rounds (F.cube key) by.separator by.«super_rounds» (2 * by.«super_rounds») (add (F.cube key) (F.cube block)) }
+    ensures { let by = constants.entry.of in
+        F.cube result ≡ rounds (F.cube key) by.separator by.«super_rounds»
+        (2 * by.«super_rounds») (add (F.cube key) (F.cube block)) }
 {
     let turned_key = key.rotated();
     let (pairs, rest) = constants.rounds.as_chunks::<2>();
     let mut s = block ^ key;
     for [slice, sheet] in pairs {
-        s = super_round::<Slices, F>(s, turned_key, *slice);
-        s = super_round::<Sheets, F>(s, key, *sheet);
+        s = super_round::<ShiftSlices, F>(s, turned_key, *slice);
+        s = super_round::<ShiftSheets, F>(s, key, *sheet);
     }
     if let Some(last) = rest.first() {
-        s = super_round::<Slices, F>(s, turned_key, *last);
+        s = super_round::<ShiftSlices, F>(s, turned_key, *last);
     }
     s
 }
 
+// The same from the last super-round to the first; the key is taken away at the end.
 fn rounds_back<F: Form>(constants: Constants, key: F, block: F) -> F
-    ensures { let by = constants.entry.of in F.cube result ≡ add (F.cube key) (rounds⁻¹ (F.cube key) by.separator by.«super_rounds» (2 * by.«super_rounds») (F.cube block)) }
+    ensures { let by = constants.entry.of in
+        F.cube result ≡ add (F.cube key) (rounds⁻¹ (F.cube key) by.separator by.«super_rounds»
+        (2 * by.«super_rounds») (F.cube block)) }
 {
     let turned_key = key.rotated();
     let (pairs, rest) = constants.rounds.as_chunks::<2>();
     let mut s = match rest.first() {
-        Some(last) => super_round_back::<Slices, F>(block, turned_key, *last),
+        Some(last) => super_round_back::<ShiftSlices, F>(block, turned_key, *last),
         None => block,
     };
     for [slice, sheet] in pairs.iter().rev() {
-        s = super_round_back::<Sheets, F>(s, key, *sheet);
-        s = super_round_back::<Slices, F>(s, turned_key, *slice);
+        s = super_round_back::<ShiftSheets, F>(s, key, *sheet);
+        s = super_round_back::<ShiftSlices, F>(s, turned_key, *slice);
     }
     s ^ key
 }

@@ -5,11 +5,11 @@ ghost use Rattle.saturnin.specs.Schedules.{Scheduled};
 
 use cipher::Parameters;
 
-// The two constants of a super-round, RC0 and RC1.
+/// The two constants of a super-round, RC0 and RC1.
 #[derive(Clone, Copy)]
 pub struct RoundConstants(pub u16, pub u16);
 
-// The constants of a cipher, a pair for each of its super-rounds.
+/// The constants of a cipher, a pair for each of its super-rounds.
 #[derive(Clone, Copy)]
 pub struct Constants<'a> {
     pub of: Parameters,
@@ -17,7 +17,7 @@ pub struct Constants<'a> {
     ghost scheduled: { Scheduled of.separator of.«super_rounds» of.«super_rounds» rounds.now },
 }
 
-// The constants of super-rounds 0 to 30, by the clocking: an array of the longest length, since a cipher uses no heap.
+/// The constants of super-rounds 0 to 30, the most that a cipher has.
 #[derive(Clone, Copy)]
 pub struct Schedule {
     pub of: Parameters,
@@ -26,6 +26,7 @@ pub struct Schedule {
 }
 
 impl Schedule {
+    /// The constants for a separator and a count of super-rounds, by the clocking.
     pub fn new(of: Parameters) -> Schedule
         ensures { result.of ≡ of }
     {
@@ -39,7 +40,7 @@ impl Schedule {
         Schedule { of, rounds }
     }
 
-    // Those that the cipher uses.
+    /// Those that the cipher uses.
     pub fn constants(&self) -> Constants<'_>
         ensures { result.of ≡ self.now.of }
     {
@@ -50,11 +51,10 @@ impl Schedule {
     }
 }
 
-// A polynomial is given by its taps, the terms below X^16.
+// Sixteen clocks. A polynomial is given by its taps, the terms below X^16.
 fn clock_sixteen<const TAPS: u16>(c: u16) -> u16
     ensures { result ≡ clocked (65536 + TAPS) c 16 }
 {
-    // The same step sixteen times, and no index: a fold would say it with a closure and a contract of its own.
     let mut x = c;
     for _i in 0..16u32 {
         x = clock_once::<TAPS>(x);

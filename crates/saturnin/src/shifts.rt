@@ -17,34 +17,34 @@ pub(crate) trait Shift {
         ensures { F.cube result ≡ back (F.cube s) };
 }
 
-pub(crate) struct Slices;
+pub(crate) struct ShiftSlices;
 
-impl Shift for Slices {
+impl Shift for ShiftSlices {
     ghost there = { SR_slice };
 
     ghost back = { SR_slice⁻¹ };
 
     fn there<F: Form>(s: F) -> F {
-        s.slices()
+        s.shift_slices()
     }
 
     fn back<F: Form>(s: F) -> F {
-        s.slices_back()
+        s.shift_slices_back()
     }
 }
 
-pub(crate) struct Sheets;
+pub(crate) struct ShiftSheets;
 
-impl Shift for Sheets {
+impl Shift for ShiftSheets {
     ghost there = { SR_sheet };
 
     ghost back = { SR_sheet⁻¹ };
 
     fn there<F: Form>(s: F) -> F {
-        s.sheets()
+        s.shift_sheets()
     }
 
     fn back<F: Form>(s: F) -> F {
-        s.sheets_back()
+        s.shift_sheets_back()
     }
 }

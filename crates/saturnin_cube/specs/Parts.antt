@@ -4,7 +4,8 @@ use Rattle.saturnin.specs.Bits.{bit, nibble}
 use Rattle.octets.specs.Lists.{at}
 use Rattle.saturnin.specs.Cube.{index, x_of, y_of, z_of}
 
--- the index from which nibble i comes, where at each step of y the slices turn by X and the sheets by Z
+-- the index from which nibble i comes, where at each step of y the slices turn by X and the sheets
+-- by Z
 abbrev pub turned_from : (X Z i : ℕ) → ℕ
 turned_from X Z i = index ((x_of i + X * y_of i) % 4) (y_of i) ((z_of i + Z * y_of i) % 4)
 

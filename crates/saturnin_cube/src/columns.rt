@@ -7,7 +7,8 @@ use crate::shape::Row;
 impl Row {
     // M, as a network of sums and alphas.
     pub(crate) fn mixed(self) -> Row
-        ensures { IsRow result (λ y. M_row y (of_row self 0) (of_row self 1) (of_row self 2) (of_row self 3)) }
+        ensures { IsRow result (λ y.
+            M_row y (of_row self 0) (of_row self 1) (of_row self 2) (of_row self 3)) }
     {
         let [a, b, c, d] = self.nibbles;
         let a = a ^ b;
@@ -23,7 +24,8 @@ impl Row {
 
     // The same network from its end to its start.
     pub(crate) fn mixed_back(self) -> Row
-        ensures { IsRow result (λ y. M⁻¹_row y (of_row self 0) (of_row self 1) (of_row self 2) (of_row self 3)) }
+        ensures { IsRow result (λ y.
+            M⁻¹_row y (of_row self 0) (of_row self 1) (of_row self 2) (of_row self 3)) }
     {
         let [a, b, c, d] = self.nibbles;
         let d = d ^ a;

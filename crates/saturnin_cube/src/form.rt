@@ -1,8 +1,8 @@
 ghost use Rattle.saturnin_cube.specs.Nibbles.{nibbles};
 
-use crate::boxes::{SIGMA0, SIGMA0_BACK, SIGMA1, SIGMA1_BACK};
 use crate::bytes::Registers;
 use crate::moves::Turn;
+use crate::s_boxes::{SIGMA0, SIGMA0_BACK, SIGMA1, SIGMA1_BACK};
 use crate::shape::{Cube, Row};
 use saturnin::{Form, RoundConstants};
 use std::array;
@@ -46,19 +46,19 @@ impl Form for Cube {
         }
     }
 
-    fn slices(self) -> Cube {
+    fn shift_slices(self) -> Cube {
         self.turned(Turn { x: 3, z: 0 })
     }
 
-    fn slices_back(self) -> Cube {
+    fn shift_slices_back(self) -> Cube {
         self.turned(Turn { x: 1, z: 0 })
     }
 
-    fn sheets(self) -> Cube {
+    fn shift_sheets(self) -> Cube {
         self.turned(Turn { x: 0, z: 3 })
     }
 
-    fn sheets_back(self) -> Cube {
+    fn shift_sheets_back(self) -> Cube {
         self.turned(Turn { x: 0, z: 1 })
     }
 

@@ -1,12 +1,12 @@
 #![tactic(auto)]
 
-mod boxes;
 mod bytes;
 mod columns;
 mod form;
 mod moves;
 mod nibble;
 mod rows;
+mod s_boxes;
 mod shape;
 mod sums;
 
@@ -18,7 +18,7 @@ use crate::shape::Cube;
 use cipher::{Cipher, Parameters, TwoWayCipher};
 use saturnin::{Schedule, decrypted, encrypted};
 
-// The block cipher Saturnin on a cube of nibbles: the form that follows its definition step by step.
+/// The block cipher Saturnin on a cube of nibbles, step by step as it is defined.
 #[derive(Clone, Copy)]
 pub struct CubeForm;
 

@@ -7,7 +7,8 @@ ghost use Rattle.saturnin_cube.specs.Parts.{turned_from};
 use crate::shape::{Cube, Row};
 use std::array;
 
-// Nibble (x, y, z) comes from (x + X y, y, z + Z y), modulo 4: at each step of y the slices turn by X and the sheets by Z.
+// Nibble (x, y, z) comes from (x + X y, y, z + Z y), modulo 4: at each step of y the slices turn by
+// X and the sheets by Z.
 #[derive(Clone, Copy)]
 pub(crate) struct Turn {
     pub(crate) x: usize,

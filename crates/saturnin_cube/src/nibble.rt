@@ -24,7 +24,8 @@ pub(crate) struct Nibble {
 impl Nibble {
     #[tactic(auto, unfolding(saturnin::specs::Bits::nibble))]
     pub(crate) fn of_bits(x0: bool, x1: bool, x2: bool, x3: bool) -> Nibble
-        ensures { result.value ≡ nibble_of (from_bool x0) (from_bool x1) (from_bool x2) (from_bool x3) }
+        ensures { result.value
+            ≡ nibble_of (from_bool x0) (from_bool x1) (from_bool x2) (from_bool x3) }
     {
         Nibble {
             value: x0 as u8 + 2 * x1 as u8 + 4 * x2 as u8 + 8 * x3 as u8,
@@ -39,8 +40,10 @@ impl Nibble {
     }
 
     fn bits(self) -> (bool, bool, bool, bool)
-        ensures { (from_bool result.0 ≡ bit_of self.value 0) × (from_bool result.1 ≡ bit_of self.value 1)
-            × (from_bool result.2 ≡ bit_of self.value 2) × (from_bool result.3 ≡ bit_of self.value 3) }
+        ensures { (from_bool result.0 ≡ bit_of self.value 0)
+            × (from_bool result.1 ≡ bit_of self.value 1)
+            × (from_bool result.2 ≡ bit_of self.value 2)
+            × (from_bool result.3 ≡ bit_of self.value 3) }
     {
         (self.bit(0), self.bit(1), self.bit(2), self.bit(3))
     }

@@ -9,8 +9,7 @@ pub(crate) struct Row {
     ghost whole: { length nibbles ≡ 4 },
 }
 
-// Row b is that of x = b mod 4 and z = b div 4. That b is below 16, and y below 4, is asked in each clause: `from_fn` gives a
-// plain number, and a type for it would be no plainer.
+// Row b is that of x = b mod 4 and z = b div 4.
 #[derive(Clone, Copy)]
 pub(crate) struct Cube {
     pub(crate) rows: [Row; 16],

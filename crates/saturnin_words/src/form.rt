@@ -15,7 +15,7 @@ impl Form for State {
         }
     }
 
-    // Word by word: as a function of the byte's index, which was tried, a hash takes 6 % more instructions.
+    // Word j is the bytes of register j, then those of register j + 8.
     fn store(self) -> [u8; 32] {
         let State { even, odd } = self;
         let words = [even.a, even.b, even.c, even.d, odd.a, odd.b, odd.c, odd.d];
@@ -44,7 +44,8 @@ impl Form for State {
         }
     }
 
-    // The matrix M on all sixteen columns: rows 0 and 1, and rows 2 and 3, go through the same steps side by side.
+    // The matrix M on all sixteen columns: rows 0 and 1, and rows 2 and 3, go through the same
+    // steps side by side.
     fn columns(self) -> State {
         let even = self.even ^ self.odd;
         let odd = self.odd.alpha() ^ even.swapped();
@@ -63,19 +64,19 @@ impl Form for State {
         }
     }
 
-    fn slices(self) -> State {
+    fn shift_slices(self) -> State {
         self.turned::<4, 0, 1, 2, 3>()
     }
 
-    fn slices_back(self) -> State {
+    fn shift_slices_back(self) -> State {
         self.turned::<4, 0, 3, 2, 1>()
     }
 
-    fn sheets(self) -> State {
+    fn shift_sheets(self) -> State {
         self.turned::<16, 0, 4, 8, 12>()
     }
 
-    fn sheets_back(self) -> State {
+    fn shift_sheets_back(self) -> State {
         self.turned::<16, 0, 12, 8, 4>()
     }
 
@@ -84,7 +85,7 @@ impl Form for State {
         self.turned::<16, 11, 11, 11, 11>()
     }
 
-    // Both constants in one word: RC0 goes to register 0 and RC1 to register 8, which share word 0.
+    // Both constants in one word: RC0 is for register 0 and RC1 for register 8, which share word 0.
     fn plus_constants(self, c: RoundConstants) -> State {
         let word = u32::from(c.0) + 65536 * u32::from(c.1);
         State {

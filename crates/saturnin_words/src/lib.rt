@@ -17,8 +17,7 @@ use saturnin::{decrypted, encrypted};
 use state::State;
 use tables::with_constants;
 
-// Saturnin in eight 32-bit words, with the S-boxes by AND, OR and XOR. There and back differ in the function that they call and
-// in the definition that its contract names; one function that takes both would be longer.
+/// The block cipher Saturnin in eight 32-bit words, with the S-boxes by AND, OR and XOR.
 #[derive(Clone, Copy)]
 pub struct WordForm;
 
@@ -31,7 +30,8 @@ impl Cipher for WordForm {
         with_constants(
             by,
             |constants|
-                ensures { result ≡ forward key.entry.now constants.entry.of.separator constants.entry.of.«super_rounds» block.entry.now }
+                ensures { result ≡ forward key.entry.now constants.entry.of.separator
+                    constants.entry.of.«super_rounds» block.entry.now }
             { encrypted::<State>(constants, key, block) },
         )
     }
@@ -46,7 +46,8 @@ impl TwoWayCipher for WordForm {
         with_constants(
             by,
             |constants|
-                ensures { result ≡ back key.entry.now constants.entry.of.separator constants.entry.of.«super_rounds» block.entry.now }
+                ensures { result ≡ back key.entry.now constants.entry.of.separator
+                    constants.entry.of.«super_rounds» block.entry.now }
             { decrypted::<State>(constants, key, block) },
         )
     }

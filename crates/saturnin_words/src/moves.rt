@@ -8,8 +8,8 @@ pub(crate) fn swapped_halves(x: u32) -> u32
     x.rotate_left(16)
 }
 
-// Each half of a word is a row of sixteen bits, in groups of WIDTH: the bits of the lower row turn LOW places up in their
-// group, and those of the upper row HIGH places.
+// Each half of a word is a row of sixteen bits, in groups of WIDTH: the bits of the lower row turn
+// LOW places up in their group, and those of the upper row HIGH places.
 pub(crate) fn turned<const WIDTH: u32, const LOW: u32, const HIGH: u32>(x: u32) -> u32
     requires width { (WIDTH ≡ 4) ⊎ (WIDTH ≡ 16) }
     requires low { LOW ≤ WIDTH }

@@ -6,8 +6,7 @@ ghost use Rattle.saturnin_words.specs.Words.{across, quad};
 use crate::moves::swapped_halves;
 use std::ops::BitXor;
 
-// Four words; the four bits that stand at one place in them are a nibble. They have names, and are no array, since the S-boxes and
-// alpha are written in them.
+// Four words; the four bits that stand at one place in them are a nibble.
 #[derive(Clone, Copy)]
 pub(crate) struct Quad {
     pub(crate) a: u32,
@@ -17,7 +16,7 @@ pub(crate) struct Quad {
 }
 
 impl Quad {
-    // What the two S-boxes share; each then orders the four words in its own way, which as an argument would be no plainer.
+    // What the two S-boxes share; each then orders the four words in its own way.
     fn sigma(self) -> Quad
         ensures zero { (p : ℕ) → across result.b result.c result.d result.a p ≡ σ₀ (quad self p) }
         ensures one { (p : ℕ) → across result.d result.b result.a result.c p ≡ σ₁ (quad self p) }

@@ -8,7 +8,8 @@ use crate::moves::turned;
 use crate::quad::Quad;
 use std::ops::BitXor;
 
-// A state or a key: words 0 to 3, with the nibbles of even index, and words 4 to 7, with those of odd index.
+// A state or a key: words 0 to 3, with the nibbles of even index, and words 4 to 7, with those of
+// odd index.
 #[derive(Clone, Copy)]
 pub(crate) struct State {
     pub(crate) even: Quad,
@@ -29,7 +30,8 @@ impl State {
         requires y1 { Y1 ≤ WIDTH }
         requires y2 { Y2 ≤ WIDTH }
         requires y3 { Y3 ≤ WIDTH }
-        ensures { cube_of result ≡ cube (λ i. at (cube_of self) (in_cube WIDTH (at (Y0 ∷ Y1 ∷ Y2 ∷ Y3 ∷ [])) i)) }
+        ensures { cube_of result ≡ cube (λ i. at (cube_of self)
+            (in_cube WIDTH (at (Y0 ∷ Y1 ∷ Y2 ∷ Y3 ∷ [])) i)) }
     {
         State {
             even: self.even.each(turned::<WIDTH, Y0, Y2>),

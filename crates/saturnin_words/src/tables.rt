@@ -3,8 +3,8 @@ ghost use Rattle.std.specs.Prelude.{◌≡◌, IfSome};
 use cipher::Parameters;
 use saturnin::{Constants, RoundConstants, Schedule};
 
-// The constants of the separators and counts that the modes use: separators 1 to 6 with 10 super-rounds, and 7 and 8 with
-// 16. A pair is RC0 and RC1.
+// The constants of the separators and counts that the modes use: separators 1 to 6 with 10
+// super-rounds, and 7 and 8 with 16. A pair is RC0 and RC1.
 static OF_TEN: [[RoundConstants; 10]; 6] = [
     // separator 1
     [

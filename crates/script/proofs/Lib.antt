@@ -1,2 +1,3 @@
 mod Texts
 mod Unspelt
+pub mod Named

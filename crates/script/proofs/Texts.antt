@@ -35,7 +35,7 @@ digits_told = numerals_by_value _ (search rules)
 pub tells_numeral : (word : List ℕ) (answer : Bool) → 0 < length word → answer ≡ list_all is_ascii_digit word → IsTrue answer ↔ IsNumeral 10 word
 tells_numeral word answer some e = (λ t. (some, digits_told.to word (sym e ∙ t)), λ n. e ∙ digits_told.from word n.1)
 
-both : (a b : Bool) → (a && b) ≡ true → (a ≡ true) × (b ≡ true)
+pub both : (a b : Bool) → (a && b) ≡ true → (a ≡ true) × (b ≡ true)
 both true b e = (refl, e)
 both false b e = absurd (grind arith)
 

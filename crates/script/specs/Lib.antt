@@ -1,3 +1,4 @@
 pub mod Messages
+pub mod Names
 pub mod Spelling
 pub mod Words

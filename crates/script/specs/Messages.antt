@@ -12,8 +12,10 @@ Starred text digits = (text ≡ 42 ∷ digits) × IsNumeral 10 digits
 abbrev pub SpellsMessage : (text : List ℕ) → Message → Type 0
 SpellsMessage text (Written bytes) =
     ((text ≡ codes "-") × (bytes.now ≡ []))
-    ⊎ ((text ≢ codes "-") × (text ≢ []) × ((digits : List ℕ) → ¬ (Starred text digits)) × (bytes.now ≡ text))
-SpellsMessage text (Many n) = (digits : List ℕ) × Starred text digits × (digits_value 10 digits ≡ n) × (n < 2 ^ 16)
+    ⊎ ((text ≢ codes "-") × (text ≢ [])
+    × ((digits : List ℕ) → ¬ (Starred text digits)) × (bytes.now ≡ text))
+SpellsMessage text (Many n) =
+    (digits : List ℕ) × Starred text digits × (digits_value 10 digits ≡ n) × (n < 2 ^ 16)
 
 -- its bytes: those written, or so many of 'x'
 abbrev pub bytes_of : Message → List ℕ

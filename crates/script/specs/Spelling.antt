@@ -1,9 +1,11 @@
 -- The lines that calls are spelt by: the name of a call first, and the rest after it.
 use Rattle.std.specs.Prelude.{◌≡◌, ℕ, List, [], codes}
-use Rattle.script.specs.Words.{first_word, after_word, without_blanks, IsText, Only, Numeral, OnlyNumeral}
+use Rattle.script.specs.Words.{first_word, after_word, without_blanks, IsText, Only, Numeral}
+use Rattle.script.specs.Words.{OnlyNumeral}
 use Rattle.script.specs.Messages.{SpellsMessage}
 use Rattle.script.specs.declared.box_calls.BoxCall.{BoxCall}
-use Rattle.script.specs.declared.box_calls.BoxCall.TheVariants.{Draw, Seal, Slip, Void, Clear, Unslip, Number, Save}
+use Rattle.script.specs.declared.box_calls.BoxCall.TheVariants.{Draw, Seal, Slip, Void, Clear}
+use Rattle.script.specs.declared.box_calls.BoxCall.TheVariants.{Unslip, Number, Save}
 use Rattle.script.specs.declared.calls.Call.{Call}
 use Rattle.script.specs.declared.calls.Call.TheVariants.{Set, Make, Read, Ask}
 use Rattle.script.specs.declared.settings.CipherForm.TheVariants.{Cube, Words}
@@ -16,7 +18,9 @@ SpellsSetting name rest (Form Cube) = (name ≡ codes "form") × Only rest (code
 SpellsSetting name rest (Form Words) = (name ≡ codes "form") × Only rest (codes "words")
 SpellsSetting name rest (Tray file) = (name ≡ codes "tray") × Only rest file.now
 SpellsSetting name rest (Plate file places) =
-    (name ≡ codes "plate") × (first_word rest ≡ file.now) × IsText file.now × OnlyNumeral 32 (after_word rest) places
+    (name ≡ codes "plate")
+    × (first_word rest ≡ file.now) × IsText file.now
+    × OnlyNumeral 32 (after_word rest) places
 
 abbrev pub SpellsBoxCall : (name rest : List ℕ) → BoxCall → Type 0
 SpellsBoxCall name rest Draw = (name ≡ codes "draw") × (rest ≡ [])
@@ -29,7 +33,9 @@ SpellsBoxCall name rest (Seal number place label message) =
     × (first_word from_label ≡ label.now)
     × SpellsMessage (after_word from_label) message
 SpellsBoxCall name rest (Slip number message) =
-    (name ≡ codes "slip") × Numeral 64 (first_word rest) number × SpellsMessage (after_word rest) message
+    (name ≡ codes "slip")
+    × Numeral 64 (first_word rest) number
+    × SpellsMessage (after_word rest) message
 SpellsBoxCall name rest (Void number) = (name ≡ codes "void") × OnlyNumeral 64 rest number
 SpellsBoxCall name rest (Clear place) = (name ≡ codes "clear") × OnlyNumeral 32 rest place
 SpellsBoxCall name rest (Unslip digits) = (name ≡ codes "unslip") × Only rest digits.now
@@ -40,10 +46,16 @@ SpellsBoxCall name rest (Save file) = (name ≡ codes "save") × Only rest file.
 abbrev pub SpellsAfter : (name rest : List ℕ) → Call → Type 0
 SpellsAfter name rest (Set setting) = SpellsSetting name rest setting
 SpellsAfter name rest (Make sign first) =
-    (name ≡ codes "make") × (first_word rest ≡ sign.now) × IsText sign.now × OnlyNumeral 64 (after_word rest) first
+    (name ≡ codes "make")
+    × (first_word rest ≡ sign.now) × IsText sign.now
+    × OnlyNumeral 64 (after_word rest) first
 SpellsAfter name rest (Read place) = (name ≡ codes "read") × OnlyNumeral 32 rest place
 SpellsAfter name rest (Ask call) = SpellsBoxCall name rest call
 
+-- the word that a line begins with
+abbrev pub name_of : (line : List ℕ) → List ℕ
+name_of line = first_word (without_blanks line)
+
 -- a line that spells a call
-abbrev pub Spells : (line : List ℕ) → Call → Type 0
-Spells line call = SpellsAfter (first_word (without_blanks line)) (after_word (without_blanks line)) call
+abbrev pub LineSpells : (line : List ℕ) → Call → Type 0
+LineSpells line call = SpellsAfter (name_of line) (after_word (without_blanks line)) call

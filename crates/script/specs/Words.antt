@@ -1,5 +1,6 @@
 -- The words of a line, which blanks part, and the numbers that words spell.
-use Rattle.std.specs.Prelude.{◌≡◌, ◌≢◌, ℕ, ◌<◌, ◌^◌, ◌==◌, ◌||◌, Bool, not, List, [], length, take, drop, position, Option, Some, None, IsUtf8}
+use Rattle.std.specs.Prelude.{◌≡◌, ◌≢◌, ℕ, ◌<◌, ◌^◌, ◌==◌, ◌||◌, Bool, not, List, [], length}
+use Rattle.std.specs.Prelude.{take, drop, position, Option, Some, None, IsUtf8}
 use Rattle.std.specs.Str.Parse.{IsNumeral, digits_value, without_leading_plus}
 use Rattle.std.specs.Option.{unwrap_or}
 
@@ -46,7 +47,7 @@ Only text word = (first_word text ≡ word) × IsText word × (after_word text �
 abbrev pub OnlyNumeral : (bits : ℕ) (text : List ℕ) (n : ℕ) → Type 0
 OnlyNumeral bits text n = Numeral bits (first_word text) n × (after_word text ≡ [])
 
--- what is read: something that is spelt so, or nothing where nothing is spelt so
-abbrev pub Reads : {A : Type 0} → (spells : A → Type 0) → Option A → Type 0
-Reads spells (Some a) = spells a
-Reads {A} spells None = (a : A) → ¬ (spells a)
+-- what a text is read as: something that it spells, or nothing where it spells nothing
+abbrev pub Parses : {A : Type 0} → (spells : A → Type 0) → Option A → Type 0
+Parses spells (Some a) = spells a
+Parses {A} spells None = (a : A) → ¬ (spells a)

@@ -1,11 +1,11 @@
 ghost use Rattle.std.specs.Prelude.{codes};
 ghost use Rattle.script.specs.Spelling.{SpellsBoxCall};
-ghost use Rattle.script.specs.Words.{Reads};
+ghost use Rattle.script.specs.Words.{Parses};
 
 use crate::messages::Message;
 use crate::words::{only_number, only_place, only_text, split_number, split_place, split_word};
 
-// A call on a box, other than a read.
+/// A call on a box, other than a read. A number is named by its value.
 #[derive(Clone, Copy)]
 pub enum BoxCall<'a> {
     Draw,
@@ -38,7 +38,7 @@ pub enum BoxCall<'a> {
 
 impl<'a> BoxCall<'a> {
     pub(crate) fn of(name: &str, rest: &'a [u8]) -> Option<BoxCall<'a>>
-        ensures { Reads (SpellsBoxCall name.now rest.now) result }
+        ensures { Parses (SpellsBoxCall name.now rest.now) result }
     {
         match name {
             "draw" => rest.is_empty().then_some(BoxCall::Draw),
@@ -64,7 +64,7 @@ impl<'a> BoxCall<'a> {
     }
 
     fn of_seal(rest: &'a [u8]) -> Option<BoxCall<'a>>
-        ensures { Reads (SpellsBoxCall (codes "seal") rest.now) result }
+        ensures { Parses (SpellsBoxCall (codes "seal") rest.now) result }
     {
         let (number, rest) = split_number(rest)?;
         let (place, rest) = split_place(rest)?;
@@ -78,7 +78,7 @@ impl<'a> BoxCall<'a> {
     }
 
     fn of_slip(rest: &'a [u8]) -> Option<BoxCall<'a>>
-        ensures { Reads (SpellsBoxCall (codes "slip") rest.now) result }
+        ensures { Parses (SpellsBoxCall (codes "slip") rest.now) result }
     {
         let (number, message) = split_number(rest)?;
         Some(BoxCall::Slip {

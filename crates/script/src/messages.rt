@@ -1,22 +1,24 @@
 ghost use Rattle.std.specs.Prelude.{◌≡◌, ℕ, List, IfOk, MatchOption};
 ghost use Rattle.script.specs.Messages.{SpellsMessage, Starred, bytes_of};
-ghost use Rattle.script.specs.Words.{Reads};
+ghost use Rattle.script.specs.Words.{Parses};
 
 use crate::words::{count_in, is_numeral};
 use std::alloc::{AllocError, Global};
 
-// A message as a line has it.
+/// A message as a line has it.
 #[derive(Clone, Copy)]
 pub enum Message<'a> {
+    /// these bytes
     Written(&'a [u8]),
-    // so many bytes 'x'
+    /// so many bytes `x`
     Many(u16),
 }
 
 impl<'a> Message<'a> {
-    // `-` is a message of no bytes, and `*` with a count one of so many bytes 'x'; another text stands for its bytes.
+    // `-` is a message of no bytes, and `*` with a count one of so many bytes 'x'; another text
+    // stands for its bytes.
     pub(crate) fn of(text: &'a [u8]) -> Option<Message<'a>>
-        ensures { Reads (SpellsMessage text.now) result }
+        ensures { Parses (SpellsMessage text.now) result }
     {
         if let Some(digits) = starred(text) {
             return Some(Message::Many(count_in(digits)?));
@@ -28,7 +30,7 @@ impl<'a> Message<'a> {
         }
     }
 
-    // Its bytes.
+    /// Its bytes.
     pub fn bytes(&self, heap: Global) -> Result<Vec<u8>, AllocError>
         ensures { IfOk result (λ v. v.items ≡ bytes_of self.now) }
     {
@@ -41,7 +43,8 @@ impl<'a> Message<'a> {
 
 // The digits of a text that is a star with a count.
 fn starred(text: &[u8]) -> Option<&[u8]>
-    ensures { MatchOption result ((digits : List ℕ) → ¬ (Starred text.now digits)) (λ digits. Starred text.now digits.now) }
+    ensures { MatchOption result ((digits : List ℕ) → ¬ (Starred text.now digits))
+        (λ digits. Starred text.now digits.now) }
 {
     match text {
         [b'*', digits @ ..] if is_numeral(digits) => Some(digits),

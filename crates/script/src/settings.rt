@@ -1,17 +1,17 @@
 ghost use Rattle.std.specs.Prelude.{codes};
 ghost use Rattle.script.specs.Spelling.{SpellsSetting};
-ghost use Rattle.script.specs.Words.{Reads};
+ghost use Rattle.script.specs.Words.{Parses};
 
 use crate::words::{only_place, only_text, split_word, text_of};
 
-// The forms of the cipher.
+/// The forms of the cipher.
 #[derive(Clone, Copy)]
 pub enum CipherForm {
     Cube,
     Words,
 }
 
-// What the boxes made after it are made with.
+/// What the boxes made after it are made with.
 #[derive(Clone, Copy)]
 pub enum Setting<'a> {
     Key { file: &'a str },
@@ -22,7 +22,7 @@ pub enum Setting<'a> {
 
 impl<'a> Setting<'a> {
     pub(crate) fn of(name: &str, rest: &'a [u8]) -> Option<Setting<'a>>
-        ensures { Reads (SpellsSetting name.now rest.now) result }
+        ensures { Parses (SpellsSetting name.now rest.now) result }
     {
         match name {
             "key" => Some(Setting::Key {
@@ -38,7 +38,7 @@ impl<'a> Setting<'a> {
     }
 
     fn of_form(rest: &[u8]) -> Option<Setting<'a>>
-        ensures { Reads (SpellsSetting (codes "form") rest.now) result }
+        ensures { Parses (SpellsSetting (codes "form") rest.now) result }
     {
         match only_text(rest)? {
             "cube" => Some(Setting::Form(CipherForm::Cube)),
@@ -48,7 +48,7 @@ impl<'a> Setting<'a> {
     }
 
     fn of_plate(rest: &'a [u8]) -> Option<Setting<'a>>
-        ensures { Reads (SpellsSetting (codes "plate") rest.now) result }
+        ensures { Parses (SpellsSetting (codes "plate") rest.now) result }
     {
         let (file, rest) = split_word(rest);
         Some(Setting::Plate {

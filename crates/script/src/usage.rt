@@ -1,9 +1,25 @@
-use crate::words::{split_word, without_blanks};
+ghost use Rattle.std.specs.Prelude.{◌↔◌, ◌≡◌, IsSome, IfSome};
+ghost use Rattle.script.specs.Names.{call_names, OneOf, NamesCall, CallsAreNamed};
+ghost use Rattle.script.specs.Spelling.{name_of};
+ghost use Rattle.script.specs.Words.{first_word};
 
-// How the call that a line names is to be written; none if it names no call.
-pub fn usage_of(line: &[u8]) -> Option<&'static str> {
+use crate::words::{split_word, text_of, without_blanks};
+
+/// How the call that a line names is to be written, its name first; none if the line names no call.
+pub fn usage_of(line: &[u8]) -> Option<&'static str>
+    ensures named { IsSome result ↔ NamesCall line.now }
+    ensures begins { IfSome result (λ usage. first_word usage.now ≡ name_of line.now) }
+    ensures calls { CallsAreNamed line.now }
+{
     let (name, _) = split_word(without_blanks(line));
-    match str::from_utf8(name).ok()? {
+    usage_named(text_of(name)?)
+}
+
+fn usage_named(name: &str) -> Option<&'static str>
+    ensures named { IsSome result ↔ OneOf call_names name.now }
+    ensures begins { IfSome result (λ usage. first_word usage.now ≡ name.now) }
+{
+    match name {
         "key" => Some("key FILE"),
         "form" => Some("form cube|words"),
         "tray" => Some("tray FILE"),

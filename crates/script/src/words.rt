@@ -1,8 +1,11 @@
-ghost use Rattle.std.specs.Prelude.{◌↔◌, ◌≡◌, ◌≢◌, ℕ, List, ◌≤◌, ◌<◌, length, not, position, IfSome, IsTrue, MatchOption, []};
+ghost use Rattle.std.specs.Prelude.{◌↔◌, ◌≡◌, ◌≢◌, ℕ, List, ◌≤◌, ◌<◌, length, not, position};
+ghost use Rattle.std.specs.Prelude.{IfSome, IsTrue, MatchOption, []};
 ghost use Rattle.std.specs.Char.{is_ascii_digit};
 ghost use Rattle.std.specs.List.{list_all};
 ghost use Rattle.std.specs.Str.Parse.{IsNumeral};
-ghost use Rattle.script.specs.Words.{is_blank as blank, end_of_word, start_of_word, first_word, after_word, without_blanks as bare, IsText, Only, Numeral, OnlyNumeral, Reads};
+ghost use Rattle.script.specs.Words.{is_blank as blank, end_of_word, start_of_word, first_word};
+ghost use Rattle.script.specs.Words.{after_word, without_blanks as bare, IsText, Only, Numeral};
+ghost use Rattle.script.specs.Words.{OnlyNumeral, Parses};
 
 // Words are parted by spaces and tabs.
 fn is_blank(b: u8) -> bool
@@ -58,14 +61,18 @@ fn first_letter(text: &[u8]) -> Option<usize>
 
 // The number that a text begins with, and what follows it.
 pub(crate) fn split_number(text: &[u8]) -> Option<(u64, &[u8])>
-    ensures { MatchOption result ((n : ℕ) → ¬ (Numeral 64 (first_word text.now) n)) (λ found. Numeral 64 (first_word text.now) found.0 × (found.1.now ≡ after_word text.now)) }
+    ensures { MatchOption result ((n : ℕ) → ¬ (Numeral 64 (first_word text.now) n))
+        (λ found. Numeral 64 (first_word text.now) found.0
+        × (found.1.now ≡ after_word text.now)) }
 {
     let (word, rest) = split_word(text);
     Some((number_in(word)?, rest))
 }
 
 pub(crate) fn split_place(text: &[u8]) -> Option<(u32, &[u8])>
-    ensures { MatchOption result ((n : ℕ) → ¬ (Numeral 32 (first_word text.now) n)) (λ found. Numeral 32 (first_word text.now) found.0 × (found.1.now ≡ after_word text.now)) }
+    ensures { MatchOption result ((n : ℕ) → ¬ (Numeral 32 (first_word text.now) n))
+        (λ found. Numeral 32 (first_word text.now) found.0
+        × (found.1.now ≡ after_word text.now)) }
 {
     let (word, rest) = split_word(text);
     Some((place_in(word)?, rest))
@@ -73,7 +80,8 @@ pub(crate) fn split_place(text: &[u8]) -> Option<(u32, &[u8])>
 
 // The word that a text is, if it is one word and no more.
 fn only(text: &[u8]) -> Option<&[u8]>
-    ensures { MatchOption result (after_word text.now ≢ []) (λ w. (w.now ≡ first_word text.now) × (after_word text.now ≡ [])) }
+    ensures { MatchOption result (after_word text.now ≢ [])
+        (λ w. (w.now ≡ first_word text.now) × (after_word text.now ≡ [])) }
 {
     match split_word(text) {
         (word, []) => Some(word),
@@ -93,19 +101,19 @@ pub(crate) fn text_of(word: &[u8]) -> Option<&str>
 
 // The number that a word spells.
 fn number_in(word: &[u8]) -> Option<u64>
-    ensures { Reads (Numeral 64 word.now) result }
+    ensures { Parses (Numeral 64 word.now) result }
 {
     text_of(word)?.parse::<u64>().ok()
 }
 
 fn place_in(word: &[u8]) -> Option<u32>
-    ensures { Reads (Numeral 32 word.now) result }
+    ensures { Parses (Numeral 32 word.now) result }
 {
     text_of(word)?.parse::<u32>().ok()
 }
 
 pub(crate) fn count_in(word: &[u8]) -> Option<u16>
-    ensures { Reads (Numeral 16 word.now) result }
+    ensures { Parses (Numeral 16 word.now) result }
 {
     text_of(word)?.parse::<u16>().ok()
 }
@@ -131,13 +139,13 @@ pub(crate) fn only_text(text: &[u8]) -> Option<&str>
 }
 
 pub(crate) fn only_number(text: &[u8]) -> Option<u64>
-    ensures { Reads (OnlyNumeral 64 text.now) result }
+    ensures { Parses (OnlyNumeral 64 text.now) result }
 {
     number_in(only(text)?)
 }
 
 pub(crate) fn only_place(text: &[u8]) -> Option<u32>
-    ensures { Reads (OnlyNumeral 32 text.now) result }
+    ensures { Parses (OnlyNumeral 32 text.now) result }
 {
     place_in(only(text)?)
 }

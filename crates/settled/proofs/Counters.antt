@@ -20,10 +20,12 @@ xor-zeros : (a : List ℕ) (n : ℕ) → length a ≡ n → xor a (zeros n) ≡ 
 unfolding xor
 xor-zeros [] n h = refl
 xor-zeros (x ∷ a) zero h = absurd (omega arith)
-xor-zeros (x ∷ a) (suc n) h = ap (λ t. t ∷ xor a (zeros n)) (xor_zero_r x) ∙ ap (λ t. x ∷ t) (xor-zeros a n (omega arith))
+xor-zeros (x ∷ a) (suc n) h =
+    ap (λ t. t ∷ xor a (zeros n)) (xor_zero_r x) ∙ ap (λ t. x ∷ t) (xor-zeros a n (omega arith))
 
 module _ (nonce : List ℕ) where
-  pub counter_16 : length nonce ≡ 16 → counter_block nonce 1 ≡ nonce ++ (0x80 ∷ (zeros 14 ++ (0x01 ∷ [])))
+  pub counter_16 : length nonce ≡ 16
+      → counter_block nonce 1 ≡ nonce ++ (0x80 ∷ (zeros 14 ++ (0x01 ∷ [])))
   unfolding counter_block padded big_endian xor
   counter_16 h =
       let e : 31 - length nonce ≡ 15 = omega arith in
@@ -31,7 +33,8 @@ module _ (nonce : List ℕ) where
       ∙ xor-append nonce (0x80 ∷ zeros 15) (zeros 16) (zeros 15 ++ (1 ∷ [])) h
       ∙ ap (λ t. t ++ (0x80 ∷ (zeros 14 ++ (1 ∷ [])))) (xor-zeros nonce 16 h)
 
-  pub counter_20 : length nonce ≡ 20 → counter_block nonce 1 ≡ nonce ++ (0x80 ∷ (zeros 10 ++ (0x01 ∷ [])))
+  pub counter_20 : length nonce ≡ 20
+      → counter_block nonce 1 ≡ nonce ++ (0x80 ∷ (zeros 10 ++ (0x01 ∷ [])))
   unfolding counter_block padded big_endian xor
   counter_20 h =
       let e : 31 - length nonce ≡ 11 = omega arith in

@@ -1,3 +1,2 @@
 pub mod Counters
 pub mod Marks
-pub mod Limits

@@ -1,5 +1,6 @@
 -- Plates by their marks.
-use Rattle.std.proofs.Common.{◌≡◌, ℕ, zero, suc, ◌<◌, ◌≤◌, true, ltb, List, [], ◌∷◌, length, get_or, Some, ap, ◌∙◌, arith, lit≤}
+use Rattle.std.proofs.Common.{◌≡◌, ℕ, zero, suc, ◌<◌, ◌≤◌, true, ltb, List, [], ◌∷◌, length, get_or}
+use Rattle.std.proofs.Common.{Some, ap, ◌∙◌, arith, lit≤}
 use Rattle.std.proofs.lemmas.Bool.{lt-ltb}
 use Rattle.faults.specs.Tables.{Not}
 use Rattle.octets.specs.Lists.{table}
@@ -9,7 +10,8 @@ use Rattle.plate.proofs.Marks.{last-here, last-before, used_more, used_less}
 use Rattle.settled.specs.Settled.{Marks}
 
 -- mark j of marks that are written out
-mark-at : (memory marks : List ℕ) → Marks memory marks → (j : ℕ) → get_or (table (length marks) (mark memory)) j 0 ≡ get_or marks j 0
+mark-at : (memory marks : List ℕ) → Marks memory marks → (j : ℕ)
+    → get_or (table (length marks) (mark memory)) j 0 ≡ get_or marks j 0
 mark-at memory marks h j = ap (λ t. get_or t j 0) h.1
 
 module _ (memory : List ℕ) (h : Marks memory (1 ∷ 2 ∷ 1 ∷ 0 ∷ [])) where
@@ -30,16 +32,28 @@ module _ (memory : List ℕ) (h : Marks memory (1 ∷ 2 ∷ 1 ∷ 0 ∷ [])) whe
   m3 = mark-at memory _ h 3
 
   pub plate_cell_0 : last_cell memory 0 (cells memory) ≡ Some 2
-  plate_cell_0 = ap (last_cell memory 0) h.0 ∙ last-before memory 0 3 (λ e. omega (arith, m3, e)) ∙ last-here memory 0 2 m2
+  plate_cell_0 =
+      ap (last_cell memory 0) h.0
+      ∙ last-before memory 0 3 (λ e. omega (arith, m3, e))
+      ∙ last-here memory 0 2 m2
 
   pub plate_cell_1 : last_cell memory 1 (cells memory) ≡ Some 1
   plate_cell_1 =
-      ap (last_cell memory 1) h.0 ∙ last-before memory 1 3 (λ e. omega (arith, m3, e)) ∙ last-before memory 1 2 (λ e. omega (arith, m2, e)) ∙ last-here memory 1 1 m1
+      ap (last_cell memory 1) h.0
+      ∙ last-before memory 1 3 (λ e. omega (arith, m3, e))
+      ∙ last-before memory 1 2 (λ e. omega (arith, m2, e))
+      ∙ last-here memory 1 1 m1
 
   three : used memory (cells memory) ≡ 3
   three =
       ap (used memory) h.0
-      ∙ omega (arith, used_less memory 3 m3, used_more memory 2 (λ e. omega (arith, m2, e)), used_more memory 1 (λ e. omega (arith, m1, e)), used_more memory 0 (λ e. omega (arith, m0, e)))
+      ∙ omega (
+        arith,
+        used_less memory 3 m3,
+        used_more memory 2 (λ e. omega (arith, m2, e)),
+        used_more memory 1 (λ e. omega (arith, m1, e)),
+        used_more memory 0 (λ e. omega (arith, m0, e)),
+      )
 
   no_mark_above : (j : ℕ) → j < cells memory → mark memory j ≤ 2
   no_mark_above zero l = omega (arith, m0)
@@ -56,10 +70,13 @@ module _ (memory : List ℕ) (h : Marks memory (1 ∷ 2 ∷ 1 ∷ 0 ∷ [])) whe
 
   pub plate_open : Fit memory 2 × Open (plate memory 2) 0 × Open (plate memory 2) 1
   plate_open =
-      let more : ltb (used memory (cells memory)) (cells memory) ≡ true = lt-ltb (used memory (cells memory)) (cells memory) (omega (arith, three, h.0)) in
+      let more : ltb (used memory (cells memory)) (cells memory) ≡ true =
+      lt-ltb (used memory (cells memory)) (cells memory) (omega (arith, three, h.0)) in
       (record { some = lit≤ tt; few = lit≤ tt; marks = no_mark_above; order = no_gap }, more, more)
 
 module _ (memory : List ℕ) (places : ℕ) (h : Marks memory (1 ∷ 0 ∷ 2 ∷ [])) where
-  pub plate_gap : Not (Fit memory places)
+  pub no_fit : Not (Fit memory places)
   unfolding table
-  plate_gap fit = omega (arith, fit.order 1 2 (omega arith) (omega (arith, h.0)) (mark-at memory _ h 1), mark-at memory _ h 2)
+  no_fit fit =
+      let unused = fit.order 1 2 (omega arith) (omega (arith, h.0)) (mark-at memory _ h 1) in
+      omega (arith, unused, mark-at memory _ h 2)

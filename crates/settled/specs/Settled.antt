@@ -1,20 +1,19 @@
 -- Cases that are settled: what the definitions must give.
-use Rattle.std.specs.Prelude.{◌≡◌, ℕ, suc, List, [], ◌∷◌, ◌++◌, map, cond, eqb, length, Some, None, Ok, Err, Result}
-use Rattle.faults.specs.Causes.{entry}
-use Rattle.faults.specs.Tables.{Table, Clear}
-use Rattle.faults.specs.declared.BoxCause.{BoxCause}
-use Rattle.faults.specs.declared.BoxCause.TheVariants.{Mode, Shelf}
+use Rattle.std.specs.Prelude.{◌≡◌, ℕ, suc, List, [], ◌∷◌, ◌++◌, map, cond, eqb, length, Some, Ok}
+use Rattle.std.specs.Prelude.{Err, Result}
+use Rattle.faults.specs.Causes.{entry, from_mode, from_shelf}
+use Rattle.faults.specs.Tables.{Table, Clear, Checks}
 use Rattle.faults.specs.declared.ShelfFault.{ShelfFault}
 use Rattle.faults.specs.declared.BoxFault.{BoxFault}
 use Rattle.octets.specs.Lists.{at, table}
+use Rattle.octets.specs.Octets.{zeros}
+use Rattle.cipher.specs.Meaning.{BlockFunction}
 use Rattle.saturnin.specs.Cube.{Cube, cube, word}
 use Rattle.saturnin.specs.Layers.{σ₀, σ₁, SR, α, M_row}
-use Rattle.cipher.specs.Meaning.{BlockFunction}
 use Rattle.saturnin.specs.Rounds.{start, clock, rotated}
-use Rattle.octets.specs.Octets.{zeros}
 use Rattle.modes.specs.Cascade.{cascade_table, CascadeSeals}
 use Rattle.modes.specs.Counters.{counter_block}
-use Rattle.shelf.specs.Meaning.{Open, Answers}
+use Rattle.shelf.specs.Meaning.{Open}
 use Rattle.plate.specs.Plates.{cells, mark, Fit, fit_table, last_cell, plate}
 use Rattle.box_model.specs.States.{Made, State}
 use Rattle.box_model.specs.Calls.{Draws, seal_table, Seals, slip_table, Slips}
@@ -31,15 +30,20 @@ two_bytes = table 32 (λ m. cond (eqb m 0) 1 (cond (eqb m 16) 2 0))
 abbrev pub Marks : (memory : List ℕ) (marks : List ℕ) → Type 0
 Marks memory marks = (cells memory ≡ length marks) × (table (length marks) (mark memory) ≡ marks)
 
--- a refusal with this number, by the cause of a fault
-abbrev pub Gets : {A F : Type 0} → (cause : F → BoxCause) → (number : ℕ) → Result A F → Type 0
-Gets {A} {F} cause number answer = (fault : F) × (answer ≡ Err fault) × ((entry (cause fault)).number ≡ number)
+-- a refusal with this number, by the fault as the box hands it up
+abbrev pub RefusedWith : {A F : Type 0} → (handed_up : F → BoxFault) → (number : ℕ)
+    → Result A F → Type 0
+RefusedWith {A} {F} handed_up number answer =
+    (fault : F) × (answer ≡ Err fault) × ((entry (handed_up fault).cause).number ≡ number)
 
--- a call takes at most so many bytes, by its table and its answer: where no bytes are taken, that many are, and one more gets 2
-abbrev pub TakesAtMost : {F C : Type 0} → (cause : F → BoxCause) → (most : ℕ) → (rows : List ℕ → Table C) → (Calls : List ℕ → Result (Unit {0}) F → Type 0) → Type 0
-TakesAtMost {F} cause most rows Calls =
+-- a call takes at most so many bytes, by its table and its answer: where no bytes are taken, that
+-- many are, and one more gets 2
+abbrev pub TakesAtMost : {F : Type 0} → (handed_up : F → BoxFault) → (most : ℕ)
+    → (rows : List ℕ → Table F) → (Calls : List ℕ → Result (Unit {0}) F → Type 0) → Type 0
+TakesAtMost {F} handed_up most rows Calls =
     (bytes : List ℕ) (answer : Result (Unit {0}) F) → Clear (rows []) → Calls bytes answer
-    → (length bytes ≡ most → answer ≡ Ok tt) × (length bytes ≡ suc most → Gets cause 2 answer)
+    → (length bytes ≡ most → answer ≡ Ok tt)
+    × (length bytes ≡ suc most → RefusedWith handed_up 2 answer)
 
 pub record Settled : Type 0 where
   -- the constants with 10 super-rounds and separator 1, with 16 and 7, and one clock of the first
@@ -59,23 +63,39 @@ pub record Settled : Type 0 where
   pub key : at (rotated numbered) 50 ≡ 6
   pub word_0 : word two_bytes 0 ≡ 0x00020001
   -- counter 1 with a nonce of 16 bytes, and with one of 20
-  pub counter_16 : (nonce : List ℕ) → length nonce ≡ 16 → counter_block nonce 1 ≡ nonce ++ (0x80 ∷ (zeros 14 ++ (0x01 ∷ [])))
-  pub counter_20 : (nonce : List ℕ) → length nonce ≡ 20 → counter_block nonce 1 ≡ nonce ++ (0x80 ∷ (zeros 10 ++ (0x01 ∷ [])))
-  -- a plate of 2 places with marks 1, 2, 1, 0: place 0 has cell 2, place 1 has cell 1, and both are open
-  pub plate_cell_0 : (memory : List ℕ) → Marks memory (1 ∷ 2 ∷ 1 ∷ 0 ∷ []) → last_cell memory 0 (cells memory) ≡ Some 2
-  pub plate_cell_1 : (memory : List ℕ) → Marks memory (1 ∷ 2 ∷ 1 ∷ 0 ∷ []) → last_cell memory 1 (cells memory) ≡ Some 1
-  pub plate_open : (memory : List ℕ) → Marks memory (1 ∷ 2 ∷ 1 ∷ 0 ∷ []) → Fit memory 2 × Open (plate memory 2) 0 × Open (plate memory 2) 1
+  pub counter_16 : (nonce : List ℕ) → length nonce ≡ 16
+      → counter_block nonce 1 ≡ nonce ++ (0x80 ∷ (zeros 14 ++ (0x01 ∷ [])))
+  pub counter_20 : (nonce : List ℕ) → length nonce ≡ 20
+      → counter_block nonce 1 ≡ nonce ++ (0x80 ∷ (zeros 10 ++ (0x01 ∷ [])))
+  -- a plate of 2 places with marks 1, 2, 1, 0: place 0 has cell 2, place 1 has cell 1, and both
+  -- are open
+  pub plate_cell_0 : (memory : List ℕ) → Marks memory (1 ∷ 2 ∷ 1 ∷ 0 ∷ [])
+      → last_cell memory 0 (cells memory) ≡ Some 2
+  pub plate_cell_1 : (memory : List ℕ) → Marks memory (1 ∷ 2 ∷ 1 ∷ 0 ∷ [])
+      → last_cell memory 1 (cells memory) ≡ Some 1
+  pub plate_open : (memory : List ℕ) → Marks memory (1 ∷ 2 ∷ 1 ∷ 0 ∷ [])
+      → Fit memory 2 × Open (plate memory 2) 0 × Open (plate memory 2) 1
   -- the check of a plate with marks 1, 0, 2 gets 13
   pub plate_gap : (memory : List ℕ) (places : ℕ) (answer : Result (Unit {0}) ShelfFault)
-      → Marks memory (1 ∷ 0 ∷ 2 ∷ []) → Answers (fit_table memory places) None answer → Gets (λ fault. Shelf fault.cause) 13 answer
-  -- a message of 928 bytes is taken by a seal of the box and one of 929 gets 2, one of 15 by a slip and one of 16 gets 2, and a
-  -- nonce of 20 by CTR-Cascade and one of 21 gets 2
+      → Marks memory (1 ∷ 0 ∷ 2 ∷ [])
+      → Checks (fit_table memory places) (λ x. Clear (fit_table memory places)) answer
+      → RefusedWith from_shelf 13 answer
+  -- a message of 928 bytes is taken by a seal of the box and one of 929 gets 2, one of 15 by a slip
+  -- and one of 16 gets 2, and a nonce of 20 by CTR-Cascade and one of 21 gets 2
   pub sheet_928 : (made : Made) (s t : State) (number place : ℕ) (label buffer buffer' : List ℕ)
-      → TakesAtMost (λ fault. fault.cause) 928 (λ message. seal_table made s number place label message buffer) (λ message answer. Seals made s number place label message buffer answer buffer' t)
+      → TakesAtMost (λ fault. fault) 928
+      (λ message. seal_table made s number place label message buffer)
+      (λ message answer. Seals made s number place label message buffer answer buffer' t)
   pub slip_15 : (made : Made) (s t : State) (number : ℕ) (buffer buffer' : List ℕ)
-      → TakesAtMost (λ fault. fault.cause) 15 (λ message. slip_table made s number message buffer) (λ message answer. Slips made s number message buffer answer buffer' t)
+      → TakesAtMost (λ fault. fault) 15
+      (λ message. slip_table made s number message buffer)
+      (λ message answer. Slips made s number message buffer answer buffer' t)
   pub nonce_20 : (f : BlockFunction) (key associated message out sign out' sign' : List ℕ)
-      → TakesAtMost (λ fault. Mode fault.cause) 20 (λ nonce. cascade_table (length key) (length nonce) (length associated) (length message) (length out) (length sign))
+      → TakesAtMost from_mode 20
+      (λ nonce. cascade_table (length key) (length nonce) (length associated) (length message)
+      (length out) (length sign))
       (λ nonce answer. CascadeSeals f key nonce associated message out sign answer out' sign')
   -- after 999,999,999 a draw gets 7
-  pub used_up : (made : Made) (s t u : State) (answer : Result ℕ BoxFault) → Draws made s (Ok 999999999) t → Draws made t answer u → Gets (λ fault. fault.cause) 7 answer
+  pub used_up : (made : Made) (s t u : State) (answer : Result ℕ BoxFault)
+      → Draws made s (Ok 999999999) t → Draws made t answer u
+      → RefusedWith (λ fault. fault) 7 answer

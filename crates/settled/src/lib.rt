@@ -2,7 +2,7 @@
 
 ghost use Rattle.settled.specs.Settled.{Settled};
 
-// The settled cases, from the definitions, in one theorem.
+/// A theorem on the definitions: they give each settled case.
 pub fn settled_cases()
     ensures { Settled }
 {}

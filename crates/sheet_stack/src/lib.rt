@@ -4,7 +4,8 @@ use archive_box::{ArchiveBox, Refusal};
 use saturnin_words::WordForm;
 use tray::Tray;
 
-// Makes a box on the tray in this memory, draws a number, and seals a sheet under it: the number of the refusal, or 0.
+// Makes a box on the tray in this memory, draws a number, and seals a sheet under it: the number of
+// the refusal, or 0.
 #[unsafe(no_mangle)]
 pub extern "C" fn sheet_stack_seal(
     memory: &mut [u8],

@@ -1,6 +1,7 @@
 #![tactic(auto)]
 
-// Runs `majgunter box` on the script that is standard input, says whether all was done, and prints the digests of what it saved.
+// Runs `majgunter box` on the script that is standard input, says whether all was done, and prints
+// the digests of what it saved.
 fn main(rt: HostRuntime) -> anyhow::Result<()> {
     let done = run(&rt, &["box"])?;
     println!(rt; "done: {done}")?;

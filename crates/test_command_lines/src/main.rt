@@ -2,7 +2,8 @@
 
 use std::alloc::{AllocError, Global};
 
-// Runs commands of the program, one to a line of standard input, and says of each whether all was done.
+// Runs commands of the program, one to a line of standard input, and says of each whether all was
+// done.
 fn main(rt: HostRuntime) -> anyhow::Result<()> {
     for line in rt.lines(rt.alloc()) {
         let line = line?;

@@ -1,4 +1,7 @@
-// A call on a box, with what is handed in beside the room for what comes back. A number is named by its value.
+use faults::BoxFault;
+
+// A call on a box, with what is handed in beside the room for what comes back. A number is named by
+// its value.
 #[derive(Drop, Debug)]
 pub(crate) enum Call {
     Draw,
@@ -30,27 +33,13 @@ pub(crate) enum Call {
 }
 
 impl Call {
-    // Where it stands in the tally.
-    pub(crate) fn kind(&self) -> usize {
-        match self {
-            Call::Draw => 0,
-            Call::Seal { .. } => 1,
-            Call::Slip { .. } => 2,
-            Call::Void { .. } => 3,
-            Call::Clear { .. } => 4,
-            Call::Read { .. } => 5,
-            Call::Unslip { .. } => 6,
-            Call::NumberAt { .. } => 7,
-        }
-    }
-
     // How large its room should be.
     pub(crate) fn room(&self) -> usize {
         match self {
             Call::Seal { .. } | Call::Read { .. } => 1024,
             Call::Slip { .. } => 48,
             Call::Unslip { .. } => 15,
-            _ => 0,
+            Call::Draw | Call::Void { .. } | Call::Clear { .. } | Call::NumberAt { .. } => 0,
         }
     }
 }
@@ -65,11 +54,22 @@ pub(crate) enum Told {
     NumberAt(Option<u64>),
 }
 
+// A refusal, by what is fixed for its cause, and its place.
 #[derive(Clone, Copy, PartialEq, Eq, Debug)]
 pub(crate) struct Refused {
     pub(crate) number: u8,
     pub(crate) layer: u8,
     pub(crate) place: Option<u32>,
+}
+
+impl Refused {
+    pub(crate) fn of(fault: BoxFault) -> Refused {
+        Refused {
+            number: fault.number(),
+            layer: fault.layer(),
+            place: fault.place,
+        }
+    }
 }
 
 pub(crate) type Answer = Result<Told, Refused>;

@@ -1,23 +1,24 @@
 ghost use Rattle.std.specs.Prelude.{◌<◌, ◌≤◌};
 
+use rand_core::{Rng, SeedableRng};
+use rand_xoshiro::SplitMix64;
 use std::alloc::{AllocError, Global};
 
-// A generator of pseudo-random numbers with a fixed start (splitmix64).
+/// Pseudo-random numbers from a fixed start.
 #[derive(Drop)]
 pub(crate) struct Dice {
-    state: u64,
+    words: SplitMix64,
 }
 
 impl Dice {
     pub(crate) fn new(seed: u64) -> Dice {
-        Dice { state: seed }
+        Dice {
+            words: SplitMix64::seed_from_u64(seed),
+        }
     }
 
     pub(crate) fn next(&mut self) -> u64 {
-        self.state = self.state.wrapping_add(0x9E37_79B9_7F4A_7C15);
-        let z = (self.state ^ (self.state >> 30)).wrapping_mul(0xBF58_476D_1CE4_E5B9);
-        let z = (z ^ (z >> 27)).wrapping_mul(0x94D0_49BB_1331_11EB);
-        z ^ (z >> 31)
+        self.words.next_u64()
     }
 
     // A number below n; 0 where there is none.

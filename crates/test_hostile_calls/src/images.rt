@@ -106,8 +106,8 @@ fn record(dice: &mut Dice, keys: &[[u8; 32]; 2], sign: &[u8; 8], place: u32) -> 
     record
 }
 
-// The image of a box that is done, as somebody else may hand it on: as it is, with a byte changed, cut short, or as the image
-// of another kind of shelf.
+// The image of a box that is done, as somebody else may hand it on: as it is, with a byte changed,
+// cut short, or as the image of another kind of shelf.
 pub(crate) fn handed_on(dice: &mut Dice, mut shelf: PlainShelf) -> PlainShelf {
     match dice.below(12) {
         0 => {

@@ -17,8 +17,8 @@ use anyhow::Context;
 use std::io::{BufRead, BufReader};
 use trial::Trial;
 
-// Drives boxes by pseudo-random calls, whatever comes, and compares each answer with that of a plain box. A line of standard
-// input has a seed, a count of boxes, and a count of calls on each.
+// Drives boxes by pseudo-random calls, whatever comes, and compares each answer with that of a
+// plain box. A line of standard input has a seed, a count of boxes, and a count of calls on each.
 fn main(rt: HostRuntime) -> anyhow::Result<()> {
     let heap = rt.alloc();
     for line in BufReader::new(heap, rt.stdin())?.lines(heap) {

@@ -31,7 +31,8 @@ fn refused(number: u8, layer: u8, place: Option<u32>) -> Answer {
 }
 
 impl PlainBox {
-    // The answer of a call; the room becomes what it should hold then. A slip opens if it is one of those that were made.
+    // The answer of a call; the room becomes what it should hold then. A slip opens if it is one of
+    // those that were made.
     pub(crate) fn answer(&mut self, slips: &[Slipped], call: &Call, room: &mut [u8]) -> Answer {
         match call {
             Call::Draw => self.draw(),

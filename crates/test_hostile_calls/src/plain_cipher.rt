@@ -1,5 +1,6 @@
-// Saturnin with 10 super-rounds, once more and as plainly as can be: a block is 64 nibbles, and nibble (x, y, z) has index
-// y + 4x + 16z. Nothing here is used but by this test, and it uses nothing of the code under test.
+// Saturnin with 10 super-rounds, once more and as plainly as can be: a block is 64 nibbles, and
+// nibble (x, y, z) has index y + 4x + 16z. Nothing here is used but by this test, and it uses
+// nothing of the code under test.
 
 const SIGMA_0: [u8; 16] = [0, 6, 14, 1, 15, 4, 7, 13, 9, 8, 12, 5, 2, 10, 3, 11];
 
@@ -27,7 +28,8 @@ pub(crate) fn encrypted(key: &[u8; 32], separator: u8, block: &[u8; 32]) -> [u8;
     bytes(&state)
 }
 
-// Bit k of the nibble with index j + 4b is bit b of register 4j + k; registers stand low byte first.
+// Bit k of the nibble with index j + 4b is bit b of register 4j + k; registers stand low byte
+// first.
 fn nibbles(bytes: &[u8; 32]) -> [u8; 64] {
     let mut state = [0; 64];
     for b in 0..16 {

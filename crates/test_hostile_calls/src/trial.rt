@@ -1,5 +1,5 @@
 use crate::asked::answer;
-use crate::calls::Call;
+use crate::calls::{Call, Refused};
 use crate::dice::Dice;
 use crate::images;
 use crate::plain_box::{PlainBox, Slipped};
@@ -9,8 +9,8 @@ use crate::viewed::viewing_is_right;
 use anyhow::anyhow;
 use archive_box::ArchiveBox;
 use box_desk::{Hand, Image};
-use plate::Plate;
 use cipher::TwoWayCipher;
+use plate::Plate;
 use saturnin_cube::CubeForm;
 use saturnin_words::WordForm;
 use shelf::Shelf;
@@ -159,7 +159,8 @@ impl<'r> Trial<'r> {
         Ok(())
     }
 
-    // One call on both boxes, which must give the same answer, and leave the same room and the same image.
+    // One call on both boxes, which must give the same answer, and leave the same room and the same
+    // image.
     fn compare<C: TwoWayCipher, S: Image>(
         &mut self,
         asked: &mut ArchiveBox<C, S>,
@@ -170,6 +171,8 @@ impl<'r> Trial<'r> {
         let mut room = self.dice.bytes(self.rt.alloc(), size)?;
         let mut wanted_room = room.clone()?;
         let told = answer(asked, &mut self.hand, call, &mut room)?;
+        self.tally.note(call, &told);
+        let told = told.map_err(Refused::of);
         let wanted = plain.answer(&self.slips, call, &mut wanted_room);
         if told != wanted
             || room != wanted_room
@@ -179,7 +182,6 @@ impl<'r> Trial<'r> {
             println!(self.rt; "{call:?}: told {told:?}, wanted {wanted:?}")?;
             return Err(anyhow!("a box differs from the plain one"));
         }
-        self.tally.note(call, &told);
         if told.is_ok() {
             self.note_slip(plain, call, &wanted_room)?;
         }

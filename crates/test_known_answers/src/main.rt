@@ -10,8 +10,8 @@ use std::alloc::{AllocError, Global};
 use std::io::{BufRead, BufReader};
 use values::{NoValue, value};
 
-// Reads records of known-answer files from standard input, each with one of its values left out, and prints that value as
-// both forms of the cipher give it.
+// Reads records of known-answer files from standard input, each with one of its values left out,
+// and prints that value as both forms of the cipher give it.
 fn main(rt: HostRuntime) -> anyhow::Result<()> {
     let heap = rt.alloc();
     let mut record = Record::new(heap);
@@ -44,7 +44,7 @@ fn answer(rt: &HostRuntime, record: &Record) -> anyhow::Result<()> {
 
 fn shown(heap: Global, value: Result<Vec<u8>, NoValue>) -> Result<String, AllocError> {
     match value {
-        Ok(bytes) => hexadecimal::encode(heap, &bytes),
+        Ok(bytes) => hex::encode(heap, bytes.as_slice()),
         Err(NoValue::Refused(fault)) => format!(in heap; "{fault}"),
         Err(NoValue::Memory(e)) => Err(e),
     }

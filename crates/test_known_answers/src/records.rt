@@ -20,8 +20,9 @@ impl Text {
     }
 }
 
-// The lines `NAME = VALUE` of a record up to a blank line. A number, or the key, is 0 or empty until its line comes: where it
-// never comes, the call refuses that, or is of a kind that does not read it. The others say what kind of record it is.
+// The lines `NAME = VALUE` of a record up to a blank line. A number, or the key, is 0 or empty
+// until its line comes: where it never comes, the call refuses that, or is of a kind that does not
+// read it. The others say what kind of record it is.
 #[derive(Drop)]
 pub(crate) struct Record {
     pub(crate) count: u32,
@@ -66,5 +67,5 @@ impl Record {
 }
 
 fn bytes(heap: Global, value: &str) -> anyhow::Result<Vec<u8>> {
-    hexadecimal::decode(heap, value)?.context("a value is not in hexadecimal digits")
+    hex::decode(heap, value).context("a value is not in hexadecimal digits")
 }

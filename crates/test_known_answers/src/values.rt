@@ -1,10 +1,10 @@
 use crate::records::{Record, Text};
+use cipher::TwoWayCipher;
 use faults::ModeFault;
 use modes::Cascade;
-use cipher::TwoWayCipher;
 use std::alloc::{AllocError, Global};
 
-// Why there is no value. `desk` has the like, with a case for shelves: for one enum this test would rest on four crates more.
+// Why there is no value.
 #[derive(Drop)]
 pub(crate) enum NoValue {
     Refused(ModeFault),
@@ -23,8 +23,8 @@ impl From<AllocError> for NoValue {
     }
 }
 
-// What a form of the cipher gives for the value that is left out. A record with associated data is one of CTR-Cascade, one
-// with only a nonce of Short.
+// What a form of the cipher gives for the value that is left out. A record with associated data is
+// one of CTR-Cascade, one with only a nonce of Short.
 pub(crate) fn value<C: TwoWayCipher>(
     form: &C,
     heap: Global,

@@ -6,7 +6,7 @@ use Rattle.std.proofs.lemmas.Bool.{true≢false, cases_Bool}
 use Rattle.modes.specs.Cascade.{CascadeOpens}
 use Rattle.faults.proofs.Results.{handed_on}
 use Rattle.locked.specs.Locked.{magic}
-use Rattle.locked.proofs.Holding.{nonce_of, sign_of, other_word, this_word}
+use Rattle.locked.proofs.Holding.{nonce_of, tag_of, other_word, this_word}
 use Rattle.locked.proofs.unlock.Goals as goal
 
 pub returns-in_err-lockable : goal.returns-in_err-lockable
@@ -39,4 +39,4 @@ returns g c =
     ] in
     this_word f (g.met.C.Cipher.gives_blocks c.args.cipher.now) key file c.args.out.now
     (λ i. (c.type_inv.key i).fits) (λ i. (c.type_inv.file i).fits) _ c.open.new.out (λ i. (c.type_inv.out i).fits) ok.0 ok.2 ok.3
-    word (subst (λ t. CascadeOpens f key (nonce_of f key file) magic t (sign_of f key file) c.args.out.now c.open.result c.open.new.out) (take_rest file 56) c.open.ensures.opens)
+    word (subst (λ t. CascadeOpens f key (nonce_of f key file) magic t (tag_of f key file) c.args.out.now c.open.result c.open.new.out) (take_rest file 56) c.open.ensures.opens)

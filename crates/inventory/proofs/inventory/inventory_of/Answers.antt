@@ -1,4 +1,4 @@
-use Rattle.std.proofs.Common.{◌≡◌, ℕ, ◌<◌, ◌++◌, [], ◌∷◌, vec_items, sym, ap, ◌∙◌, subst, arith}
+use Rattle.std.proofs.Common.{◌≡◌, ℕ, ◌<◌, vec_items, sym, ap, ◌∙◌, subst, arith}
 use Rattle.std.proofs.lemmas.List.{length-replicate}
 use Rattle.octets.specs.Octets.{zeros}
 use Rattle.shelf.proofs.Tables.{got}
@@ -20,8 +20,9 @@ loop-place-preserved g c =
     let b : bytes ≡ m.bytes p = got m p (zeros 1024) bytes c.get.result (length-replicate {A = ℕ} 1024 0) inside c.get.ensures in
     let items = vec_items c.loop-place.held in
     elim c.if-not-is_empty.branch [
-      | then-not-is_empty+in_ok-push w ↦ held m p items _ c.loop-place.invariant (λ none. w.if-not-is_empty.ensures (b ∙ none))
-          (ap vec_items w.held-is ∙ w.in_ok-push.ensures.items ∙ ap (λ n. items ++ (record { place = p; number = n } ∷ [])) (w.number-number.ensures ∙ ap number_in b))
+      | then-not-is_empty+in_ok-push w ↦
+          held m p items _ c.loop-place.invariant w.number-number.result (λ none. w.if-not-is_empty.ensures (b ∙ none)) (w.number-number.ensures ∙ ap number_in b)
+          (ap vec_items w.held-is ∙ w.in_ok-push.ensures.items)
       | else-not-is_empty w ↦ skipped m p items _ c.loop-place.invariant (sym b ∙ w.if-not-is_empty.ensures) (ap vec_items w.held-is)
     ]
 

@@ -3,7 +3,7 @@ use Rattle.std.proofs.lemmas.List.{length_push}
 use Rattle.saturnin.specs.Layers.{add}
 use Rattle.saturnin.specs.Back.{rounds⁻¹}
 use Rattle.saturnin.proofs.Schedules.{long}
-use Rattle.saturnin.proofs.TwoRounds.{slices, sheets}
+use Rattle.saturnin.proofs.TwoRounds.{slice_shift, sheet_shift}
 use Rattle.saturnin.proofs.Turns.{none, in_pairs, without_last, in_last, left_over, return}
 use Rattle.saturnin.proofs.rounds.rounds_back.Goals as goal
 use Rattle.saturnin.proofs.rounds.rounds_back.Goals.{in-Some, in-None}
@@ -36,9 +36,9 @@ loop-slice-preserved g c =
     record {
       pairs = without_last none _ _ _ _ e all;
       fit = omega (arith, c.loop-slice.invariant.fit);
-      undone = return K D R _ k.scheduled (2 * i) (omega arith) (slices K D R (2 * i) (omega arith)) _ _ (in_last none _ _ _ _ e all 0 _ (omega arith) (omega arith)) c.rotated-turned_key.ensures _ _
+      undone = return K D R _ k.scheduled (2 * i) (omega arith) (slice_shift K D R (2 * i) (omega arith)) _ _ (in_last none _ _ _ _ e all 0 _ (omega arith) (omega arith)) c.rotated-turned_key.ensures _ _
           c.super_round_back-s-in-loop-slice-2.ensures
-          ∙ return K D R _ k.scheduled (2 * i + 1) l (sheets K D R (2 * i + 1) (omega arith)) _ _ (in_last none _ _ _ _ e all 1 _ (omega arith) (omega arith)) refl _ _
+          ∙ return K D R _ k.scheduled (2 * i + 1) l (sheet_shift K D R (2 * i + 1) (omega arith)) _ _ (in_last none _ _ _ _ e all 1 _ (omega arith) (omega arith)) refl _ _
           c.super_round_back-s-in-loop-slice.ensures
           ∙ ap (λ n. rounds⁻¹ K D R n (g.F.Form.cube c.loop-slice.s)) (omega arith)
           ∙ c.loop-slice.invariant.undone;
@@ -59,7 +59,7 @@ returns g c =
       | in-Some w ↦
           let l = w.in-Some.ensures.item in
           ap (λ s. rounds⁻¹ K D R (2 * (2 * (R / 2))) (g.F.Form.cube s)) w.s-is
-          ∙ return K D R _ k.scheduled (2 * (R / 2)) (omega (arith, f.back_len, whole, l.3.0)) (slices K D R (2 * (R / 2)) (omega arith)) _ _ (l.4 (omega arith) none ∙ left_over none _ _ f.back (2 * (R / 2)) (omega (arith, whole)))
+          ∙ return K D R _ k.scheduled (2 * (R / 2)) (omega (arith, f.back_len, whole, l.3.0)) (slice_shift K D R (2 * (R / 2)) (omega arith)) _ _ (l.4 (omega arith) none ∙ left_over none _ _ f.back (2 * (R / 2)) (omega (arith, whole)))
           c.rotated-turned_key.ensures _ _ w.super_round_back-s.ensures
           ∙ ap (λ n. rounds⁻¹ K D R n (g.F.Form.cube c.args.block)) (let q : 2 * (2 * (R / 2) + 1) ≡ 2 * R = omega (arith, f.back_len, whole, l.3.0) in q)
       | in-None w ↦ ap₂ (λ n s. rounds⁻¹ K D R n (g.F.Form.cube s)) (let q : 2 * (2 * (R / 2)) ≡ 2 * R = omega (arith, f.back_len, whole, w.in-None.ensures.item.3) in q) w.s-is

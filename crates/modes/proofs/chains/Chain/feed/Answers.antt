@@ -28,6 +28,6 @@ returns g c =
     let turned : length c.args.bytes.now / 32 * 32 ≡ 32 * (length c.args.bytes.now / 32) = omega arith in
     record {
       cipher = c.loop-block.invariant.cipher;
-      value = c.loop-block.invariant.value ∙ ap (links f g.row.D g.row.R c.args.self.now.value c.args.bytes.now) all;
+      value = c.loop-block.invariant.value ∙ ap (links f g.row.BLOCKS g.row.SUPER_ROUNDS c.args.self.now.value c.args.bytes.now) all;
       tail = c.pad-self.ensures ∙ ap (padded 32) (c.as_chunks.ensures.back ∙ ap (λ n. drop n c.args.bytes.now) turned);
     }

@@ -1,3 +1,0 @@
-pub mod Spelling
-pub mod Pairs
-pub mod Back

@@ -1,6 +1,0 @@
-use Rattle.std.proofs.Common.{◌≡◌, take, string_bytes}
-use Rattle.hexadecimal.specs.Hex.{spelled}
-use Rattle.hexadecimal.proofs.encode.Given as goal
-
-abbrev pub invariant-loop-b : goal.invariant-loop-b
-invariant-loop-b l = string_bytes l.text ≡ spelled (take l.b-index l.bytes)
