@@ -11,4 +11,4 @@ first_is (number ∷ rest) x v some e h = (number, rest, refl, ap (λ m. m.value
 pub returns : goal.returns
 returns c =
     first_is c.args.self.now.numbers.items c.in_ok-front.field-0.now c.value.result
-    c.in_ok-front.ensures.item.0.0 c.in_ok-front.ensures.lookup c.value.ensures
+    c.in_ok-front.ensures.item.3.0 c.in_ok-front.ensures.lookup c.value.ensures
