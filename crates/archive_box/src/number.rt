@@ -12,8 +12,8 @@ pub struct Number {
     ghost within: { value ≤ last_number },
 }
 
-// What stands in a number alone and derives nothing: so a number can derive neither Drop nor Clone, and
-// no other crate can make one.
+// What stands in a number alone and derives nothing: so a number can derive neither Drop nor
+// Clone, and no other crate can make one.
 pub struct Once;
 
 /// Why a seal or a slip was refused, and the number handed back.

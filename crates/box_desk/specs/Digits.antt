@@ -1,6 +1,7 @@
 -- Why a text in hexadecimal digits is not read.
 use Rattle.hex.specs.declared.error.FromHexError.{FromHexError}
-use Rattle.hex.specs.declared.error.FromHexError.TheVariants.{InvalidHexCharacter, OddLength, InvalidStringLength, OutOfMemory}
+use Rattle.hex.specs.declared.error.FromHexError.TheVariants.{InvalidHexCharacter, OddLength}
+use Rattle.hex.specs.declared.error.FromHexError.TheVariants.{InvalidStringLength, OutOfMemory}
 use Rattle.box_desk.specs.declared.problems.Problem.{Problem}
 use Rattle.box_desk.specs.declared.problems.Problem.TheVariants.{NoDigits, Memory}
 

@@ -1,8 +1,13 @@
 -- What the next box is made with, or why there is nothing to make one with.
-use Rattle.std.specs.Prelude.{◌≡◌, ◌≢◌, ℕ, List, Bool, true, false, Option, Some, None, Ok, Err, Result}
+use Rattle.std.specs.Prelude.{◌≡◌, ◌≢◌, ℕ, List, Bool, true, false, Option, Some, None, Ok, Err}
+use Rattle.std.specs.Prelude.{Result}
 use Rattle.hex.specs.Hex.{decode_sized}
 use Rattle.box_desk.specs.declared.problems.Problem.{Problem}
-use Rattle.box_desk.specs.declared.problems.Problem.TheVariants.{NoCall, Misspelt, TooLong, NoDigits, NoSign, NoNumber, NoKey, NoShelf, NoBox, NoSheet, KeyLength, Unread, Unwritten, Memory, Refused}
+use Rattle.box_desk.specs.declared.problems.Problem.TheVariants.{NoCall, Misspelt, TooLong}
+use Rattle.box_desk.specs.declared.problems.Problem.TheVariants.{NoDigits, NoSign, NoNumber}
+use Rattle.box_desk.specs.declared.problems.Problem.TheVariants.{NoKey, NoShelf, NoBox, NoSheet}
+use Rattle.box_desk.specs.declared.problems.Problem.TheVariants.{KeyLength, Unread, Unwritten}
+use Rattle.box_desk.specs.declared.problems.Problem.TheVariants.{Memory, Refused}
 use Rattle.box_desk.specs.declared.settings.Making.{Making}
 use Rattle.box_desk.specs.declared.settings.Settings.{Settings}
 

@@ -1,7 +1,9 @@
 ghost use Rattle.std.specs.Prelude.{◌≡◌};
 ghost use Rattle.faults.specs.Causes.{from_shelf};
 ghost use Rattle.box_desk.specs.Digits.{decoding_problem};
-ghost use Rattle.box_desk.specs.declared.problems.Problem.TheVariants.{Refused, Unread as UnreadProblem, Memory};
+ghost use Rattle.box_desk.specs.declared.problems.Problem.TheVariants.{Refused};
+ghost use Rattle.box_desk.specs.declared.problems.Problem.TheVariants.{Unread as UnreadProblem};
+ghost use Rattle.box_desk.specs.declared.problems.Problem.TheVariants.{Memory};
 
 use faults::{BoxFault, ShelfFault};
 use files::Unread;

@@ -4,7 +4,8 @@ use Rattle.hex.specs.Hex.{decode_of}
 use Rattle.desk.specs.declared.locks.Nonce.{Nonce}
 use Rattle.desk.specs.declared.unmade.Unmade.TheVariants.{Memory}
 use Rattle.cli.specs.declared.problems.Problem.{Problem}
-use Rattle.cli.specs.declared.problems.Problem.TheVariants.{Unmade, NoDigits, NoCount, Unread, KeyUnread, Unwritten}
+use Rattle.cli.specs.declared.problems.Problem.TheVariants.{Unmade, NoDigits, NoCount, Unread}
+use Rattle.cli.specs.declared.problems.Problem.TheVariants.{KeyUnread, Unwritten}
 
 -- an answer: the bytes that the digits spell, a refusal where they spell none, or no memory
 abbrev pub NonceAnswer : (digits : List ℕ) → Result Nonce Problem → Type 0

@@ -1,6 +1,7 @@
 -- What the commands on shelves print: the report, and then a line on bytes that belong to no place,
 -- where there are some.
-use Rattle.std.specs.Prelude.{◌≡◌, ℕ, ◌%◌, ◌==◌, cond, List, [], ◌++◌, length, codes, decimal, Ok, Err, Result}
+use Rattle.std.specs.Prelude.{◌≡◌, ℕ, ◌%◌, ◌==◌, cond, List, [], ◌++◌, length, codes, decimal, Ok}
+use Rattle.std.specs.Prelude.{Err, Result}
 use Rattle.shelf.specs.Meaning.{Meaning}
 use Rattle.plate.specs.Plates.{Fit, plate}
 use Rattle.inventory.specs.Reports.{Reports}

@@ -1,10 +1,12 @@
 -- The words that a command is written as.
-use Rattle.std.specs.Prelude.{◌≡◌, ◌≤◌, ◌⊎◌, ℕ, List, [], ◌∷◌, length, codes, map, Option, Some, None, string_bytes}
+use Rattle.std.specs.Prelude.{◌≡◌, ◌≤◌, ◌⊎◌, ℕ, List, [], ◌∷◌, length, codes, map, Option, Some}
+use Rattle.std.specs.Prelude.{None, string_bytes}
 use Rattle.faults.specs.Tables.{Not}
 use Rattle.cli.specs.Commands.{IsCommand}
 use Rattle.cli.specs.declared.commands.Files.{Files}
 use Rattle.cli.specs.declared.commands.Command.{Command}
-use Rattle.cli.specs.declared.commands.Command.TheVariants.{Help, Hash, Lock, Unlock, Tray, Plate, Box}
+use Rattle.cli.specs.declared.commands.Command.TheVariants.{Help, Hash, Lock, Unlock, Tray, Plate}
+use Rattle.cli.specs.declared.commands.Command.TheVariants.{Box}
 
 -- the files of a locking or an unlocking
 abbrev pub file_words : Files → List (List ℕ)

@@ -1,7 +1,8 @@
 ghost use Rattle.std.specs.Prelude.{◌≡◌};
 ghost use Rattle.desk.specs.declared.unmade.Unmade.TheVariants.{Memory};
 ghost use Rattle.files.specs.declared.unread.Unread.TheVariants.{Failed};
-ghost use Rattle.cli.specs.declared.problems.Problem.TheVariants.{Unmade as UnmadeProblem, Unread as UnreadProblem};
+ghost use Rattle.cli.specs.declared.problems.Problem.TheVariants.{Unmade as UnmadeProblem};
+ghost use Rattle.cli.specs.declared.problems.Problem.TheVariants.{Unread as UnreadProblem};
 
 use desk::Unmade;
 use files::Unread;
