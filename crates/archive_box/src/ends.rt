@@ -17,13 +17,13 @@ impl<C: TwoWayCipher, S: Shelf> ArchiveBox<C, S> {
             (λ made s. Voids made s number.value result) self.old self.new }
     {
         let value = number.spend();
-        self.is_out(value)?;
+        self.check_number(value)?;
         self.out.take_out(value);
         Ok(())
     }
 
     // Whether a number is out here.
-    pub(crate) fn is_out(&self, number: u64) -> Result<(), BoxFault>
+    pub(crate) fn check_number(&self, number: u64) -> Result<(), BoxFault>
         ensures { Tells C.Cipher.forward C.TwoWayCipher.back S.Shelf.meaning
             (λ made s. let rows = void_table made s number in Checks rows (λ _. Clear rows) result)
             self.now }

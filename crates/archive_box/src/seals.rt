@@ -63,7 +63,7 @@ impl<C: TwoWayCipher, S: Shelf> ArchiveBox<C, S> {
             (with_place place result) bytes.new)
             self.old self.new }
     {
-        self.sealable(number, place, label, message, bytes)?;
+        self.check_seal(number, place, label, message, bytes)?;
         let label = label.as_array().unwrap();
         let record = bytes.as_mut_array().unwrap();
         let nonce = self.nonce(number);
@@ -79,7 +79,7 @@ impl<C: TwoWayCipher, S: Shelf> ArchiveBox<C, S> {
     }
 
     // Whether the sealing would be done.
-    fn sealable(
+    fn check_seal(
         &self,
         number: u64,
         place: u32,
@@ -99,7 +99,7 @@ impl<C: TwoWayCipher, S: Shelf> ArchiveBox<C, S> {
         if message.len() > 928 {
             return Err(BoxCause::Limit.into());
         }
-        self.shelf.allows_put(place, 1024)?;
-        self.is_out(number)
+        self.shelf.check_put(place, 1024)?;
+        self.check_number(number)
     }
 }

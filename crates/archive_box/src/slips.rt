@@ -43,7 +43,7 @@ impl<C: TwoWayCipher, S: Shelf> ArchiveBox<C, S> {
         if message.len() > 15 {
             return Err(BoxCause::Limit.into());
         }
-        self.is_out(number)?;
+        self.check_number(number)?;
         let nonce = self.nonce(number);
         let lock = SlipLock {
             cipher: &self.cipher,

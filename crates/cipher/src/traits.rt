@@ -27,7 +27,7 @@ pub trait Cipher {
         ensures { Calls (forward self.now) key.now separator «super_rounds» block.old
             result block.new }
     {
-        let (key, by, plain) = admitted(key, separator, super_rounds, block)?;
+        let (key, by, plain) = check_call(key, separator, super_rounds, block)?;
         block.copy_from_slice(&self.encrypt_block(&key, by, &plain));
         Ok(())
     }
@@ -58,7 +58,7 @@ pub trait TwoWayCipher: Cipher {
             → OnlyBlock (Self.Cipher.forward self.now) key.now separator «super_rounds»
             block.old block.new }
     {
-        let (key, by, text) = admitted(key, separator, super_rounds, block)?;
+        let (key, by, text) = check_call(key, separator, super_rounds, block)?;
         block.copy_from_slice(&self.decrypt_block(&key, by, &text));
         Ok(())
     }
@@ -67,7 +67,7 @@ pub trait TwoWayCipher: Cipher {
 }
 
 // What `encrypt` and `decrypt` share: what a call was handed, in the types of the block functions.
-fn admitted(
+fn check_call(
     key: &[u8],
     separator: u8,
     super_rounds: u8,

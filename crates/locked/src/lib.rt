@@ -24,7 +24,7 @@ pub fn lock<C: Cipher>(
     ensures { Locks (C.Cipher.forward cipher.now) key.now nonce.now message.now file.old
         result file.new }
 {
-    lockable(key.len(), nonce.len(), message.len(), file.len())?;
+    check_lock(key.len(), nonce.len(), message.len(), file.len())?;
     let mut tag = [0; 32];
     let under = Cascade {
         cipher,
@@ -40,7 +40,7 @@ pub fn lock<C: Cipher>(
 }
 
 // Whether key, nonce, message and file go together by their lengths.
-fn lockable(key: usize, nonce: usize, message: usize, file: usize) -> Result<(), ModeFault>
+fn check_lock(key: usize, nonce: usize, message: usize, file: usize) -> Result<(), ModeFault>
     ensures { Checks (lock_table key nonce message file)
         (λ _. (key ≡ 32) × (nonce ≡ 20) × (file ≡ 56 + message) × (message ≤ 65536)) result }
 {
@@ -65,7 +65,7 @@ pub fn unlock<C: Cipher>(
 ) -> Result<(), ModeFault>
     ensures { Unlocks (C.Cipher.forward cipher.now) key.now file.now out.old result out.new }
 {
-    lockable(key.len(), 20, out.len(), file.len())?;
+    check_lock(key.len(), 20, out.len(), file.len())?;
     if &file[..4] != MAGIC {
         out.fill(0);
         return Err(ModeCause::Tag.into());

@@ -30,7 +30,7 @@ impl<C: Cipher> Cascade<'_, C> {
             self.now.nonce.now self.now.associated.now message.now out.old tag.old
             result out.new tag.new }
     {
-        let under = self.taken(message.len(), out.len(), tag.len())?;
+        let under = self.check_lengths(message.len(), out.len(), tag.len())?;
         out.copy_from_slice(message);
         under.ctr(out);
         tag.copy_from_slice(&under.tag(self.associated, out));
@@ -57,7 +57,7 @@ impl<C: Cipher> Cascade<'_, C> {
         let Ok(tag) = tag.try_into() else {
             return Err(ModeCause::Length.into());
         };
-        let under = self.taken(text.len(), out.len(), 32)?;
+        let under = self.check_lengths(text.len(), out.len(), 32)?;
         if !same(tag, &under.tag(self.associated, text)) {
             out.fill(0);
             return Err(ModeCause::Tag.into());
@@ -68,7 +68,7 @@ impl<C: Cipher> Cascade<'_, C> {
     }
 
     // Whether all lengths are right, also those of the text, the output buffer and the tag.
-    fn taken(&self, text: usize, out: usize, tag: usize) -> Result<Keyed<'_, C>, ModeFault>
+    fn check_lengths(&self, text: usize, out: usize, tag: usize) -> Result<Keyed<'_, C>, ModeFault>
         ensures { Checks
             (cascade_table (length self.now.key.now) (length self.now.nonce.now)
             (length self.now.associated.now) text out tag)

@@ -11,12 +11,12 @@ use faults::{ModeCause, ModeFault};
 pub fn hash<C: Cipher>(cipher: &C, message: &[u8], digest: &mut [u8]) -> Result<(), ModeFault>
     ensures { Hashes (C.Cipher.forward cipher.now) message.now digest.old result digest.new }
 {
-    hashable(message.len(), digest.len())?;
+    check_hash(message.len(), digest.len())?;
     digest.copy_from_slice(&hash_of(cipher, message));
     Ok(())
 }
 
-fn hashable(message: usize, digest: usize) -> Result<(), ModeFault>
+fn check_hash(message: usize, digest: usize) -> Result<(), ModeFault>
     ensures { Checks (hash_table message digest)
         (λ _. (digest ≡ 32) × (message ≤ 65536)) result }
 {

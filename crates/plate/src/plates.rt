@@ -104,7 +104,7 @@ impl Shelf for Plate<'_> {
     }
 
     fn get(&self, place: u32, buffer: &mut [u8]) -> Result<(), ShelfFault> {
-        self.allows_get(place, buffer.len())?;
+        self.check_get(place, buffer.len())?;
         match self.last_cell(place) {
             Some(j) => buffer.copy_from_slice(&self.memory[1026 * j + 2..1026 * j + 1026]),
             None => buffer.fill(0),
@@ -113,7 +113,7 @@ impl Shelf for Plate<'_> {
     }
 
     fn put(&mut self, place: u32, bytes: &[u8]) -> Result<(), ShelfFault> {
-        self.allows_put(place, bytes.len())?;
+        self.check_put(place, bytes.len())?;
         let from = 1026 * self.used;
         let cell = &mut self.memory[from..from + 1026];
         octets::paste(cell, 2, bytes);

@@ -47,7 +47,7 @@ impl<'a, C: Cipher> PlaceLock<'a, C> {
             × (message.items ≡ message_of f self.now.key.now bytes.now)) result }
     {
         let record = Record { bytes };
-        let text = formed_text(bytes)?;
+        let text = check_form(bytes)?;
         let associated = associated(self.place, record.head());
         let key = self.key;
         let under = Cascade {
@@ -64,7 +64,7 @@ impl<'a, C: Cipher> PlaceLock<'a, C> {
 }
 
 // The text of a record that is well-formed, and not empty.
-fn formed_text(bytes: &[u8; 1024]) -> Result<&[u8], BoxFault>
+fn check_form(bytes: &[u8; 1024]) -> Result<&[u8], BoxFault>
     ensures { Checks (form_table bytes.now)
         (λ text. (text.now ≡ text_in bytes.now)
         × Not (bytes.now ≡ empty)

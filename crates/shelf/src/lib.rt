@@ -38,7 +38,7 @@ pub trait Shelf {
             (λ _. self.new ≡ self.old) };
 
     /// Whether `get` with a buffer of this size would be done.
-    fn allows_get(&self, place: u32, room: usize) -> Result<(), ShelfFault>
+    fn check_get(&self, place: u32, room: usize) -> Result<(), ShelfFault>
         ensures { let rows = get_table (meaning self.now) place room in
             Checks rows (λ _. Clear rows) result }
     {
@@ -52,7 +52,7 @@ pub trait Shelf {
     }
 
     /// Whether a `put` of so many bytes would be done.
-    fn allows_put(&self, place: u32, size: usize) -> Result<(), ShelfFault>
+    fn check_put(&self, place: u32, size: usize) -> Result<(), ShelfFault>
         ensures { let rows = put_table (meaning self.now) place size in
             Checks rows (λ _. Clear rows) result }
     {

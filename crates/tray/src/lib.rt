@@ -51,14 +51,14 @@ impl Shelf for Tray<'_> {
     }
 
     fn get(&self, place: u32, buffer: &mut [u8]) -> Result<(), ShelfFault> {
-        self.allows_get(place, buffer.len())?;
+        self.check_get(place, buffer.len())?;
         let from = 1024 * place as usize;
         buffer.copy_from_slice(&self.memory[from..from + 1024]);
         Ok(())
     }
 
     fn put(&mut self, place: u32, bytes: &[u8]) -> Result<(), ShelfFault> {
-        self.allows_put(place, bytes.len())?;
+        self.check_put(place, bytes.len())?;
         let from = 1024 * place as usize;
         self.memory[from..from + 1024].copy_from_slice(bytes);
         Ok(())

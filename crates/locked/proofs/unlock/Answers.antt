@@ -9,17 +9,17 @@ use Rattle.locked.specs.Locked.{magic}
 use Rattle.locked.proofs.Holding.{nonce_of, tag_of, other_word, this_word}
 use Rattle.locked.proofs.unlock.Goals as goal
 
-pub returns-in_err-lockable : goal.returns-in_err-lockable
-returns-in_err-lockable g c =
+pub returns-in_err-check_lock : goal.returns-in_err-check_lock
+returns-in_err-check_lock g c =
     let e = handed_on _ c.from_residual.result c.from_residual.ensures.1 in
-    let b = c.in_err-lockable.ensures in (
+    let b = c.in_err-check_lock.ensures in (
       λ h. (e ∙ ap Err (b.0 (λ q. h (q.0, q.2))), refl),
       λ n. let more = b.1 (λ q. n (λ k. q (k.0, refl, k.1))) in (λ h. (e ∙ ap Err (more.0 h), refl), λ m. absurd (more.1 m)),
     )
 
 pub returns-then-ne : goal.returns-then-ne
 returns-then-ne g c =
-    let ok = c.in_ok-lockable.ensures in
+    let ok = c.in_ok-check_lock.ensures in
     let f = g.C.Cipher.forward c.args.cipher.now in
     let d = bytes_eq-Decides (take 4 c.args.file.now) magic in
     other_word f (g.met.C.Cipher.gives_blocks c.args.cipher.now) c.args.key.now c.args.file.now c.args.out.now
@@ -28,7 +28,7 @@ returns-then-ne g c =
 
 pub returns : goal.returns
 returns g c =
-    let ok = c.in_ok-lockable.ensures in
+    let ok = c.in_ok-check_lock.ensures in
     let f = g.C.Cipher.forward c.args.cipher.now in
     let key = c.args.key.now in
     let file = c.args.file.now in

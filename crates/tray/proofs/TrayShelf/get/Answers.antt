@@ -8,4 +8,4 @@ pub returns : goal.returns
 returns c =
     let memory = c.args.self.now.memory.now in
     let from = 1024 * c.args.place in
-    get_done (tray memory) c.args.place _ _ c.in_ok-allows_get.ensures (c.copy_from_slice.ensures.after ∙ part_is from 1024 (from + 1024) memory refl)
+    get_done (tray memory) c.args.place _ _ c.in_ok-check_get.ensures (c.copy_from_slice.ensures.after ∙ part_is from 1024 (from + 1024) memory refl)

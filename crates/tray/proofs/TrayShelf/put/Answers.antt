@@ -13,6 +13,6 @@ returns c =
     let memory = c.args.self.now.memory.now in
     let bytes = c.args.bytes.now in
     let place = c.args.place in
-    let allowed = c.in_ok-allows_put.ensures in
+    let allowed = c.in_ok-check_put.ensures in
     let all = put_is (1024 * place) 1024 memory _ bytes c.copy_from_slice.ensures.after (put_allowed (tray memory) place (length bytes) allowed).0 in
     record { puts = tray_puts memory bytes _ place allowed all; entire = (tray_stores memory bytes _ place allowed all, refl) }
