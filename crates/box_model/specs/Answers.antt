@@ -2,8 +2,8 @@
 use Rattle.std.specs.Prelude.{ℕ, List, Option, Result}
 use Rattle.faults.specs.declared.BoxFault.{BoxFault}
 use Rattle.box_model.specs.States.{Made, State}
-use Rattle.box_model.specs.Calls.{Done, Draws, Seals, Slips, Voids, Clears, Reads, Unslips}
-use Rattle.box_model.specs.Calls.{TellsNumber}
+use Rattle.box_model.specs.Calls.{Done, Message, Draws, Seals, Slips, Voids, Clears, Reads}
+use Rattle.box_model.specs.Calls.{Unslips, TellsNumber}
 
 -- whatever was handed in and whatever the box is
 pub record Answerable (made : Made) (s : State) : Type 0 where
@@ -11,7 +11,7 @@ pub record Answerable (made : Made) (s : State) : Type 0 where
   pub seals : (number place : ℕ) (label message buffer : List ℕ)
       → (answer : Done) × (buffer' : List ℕ) × (t : State)
       × Seals made s number place label message buffer answer buffer' t
-  pub slips : (number : ℕ) (message buffer : List ℕ)
+  pub slips : (number : ℕ) (message : Message) (buffer : List ℕ)
       → (answer : Done) × (buffer' : List ℕ) × (t : State)
       × Slips made s number message buffer answer buffer' t
   pub voids : (number : ℕ) → (answer : Done) × (t : State) × Voids made s number answer t

@@ -7,7 +7,8 @@ use Rattle.faults.specs.Tables.{Table, By, Not}
 use Rattle.faults.specs.declared.ModeCause.TheVariants.{Tag, Padding}
 use Rattle.faults.specs.declared.ShelfCause.TheVariants.{Outside, Shut}
 use Rattle.faults.specs.declared.BoxCause.TheVariants.{Mode, Shelf, Length, Limit, NotOut, UsedUp}
-use Rattle.faults.specs.declared.BoxCause.TheVariants.{SixteenOut, Empty, Filling}
+use Rattle.faults.specs.declared.BoxCause.TheVariants.{SixteenOut, Empty, Filling, Content}
+use Rattle.faults.specs.declared.BoxCause.TheVariants.{OtherKind}
 use Rattle.faults.specs.declared.BoxFault.{BoxFault}
 use Rattle.modes.specs.Short.{BlockHolds, filled}
 use Rattle.shelf.specs.Meaning.{Open, Placed}
@@ -19,6 +20,19 @@ use Rattle.box_model.specs.States.{Made, State, last_number}
 -- the answer of a call that gives nothing but that it is done
 abbrev pub Done : Type 0
 Done = Result (Unit {0}) BoxFault
+
+-- what was handed to a slip: a message; or, to the maker of a kind, a content, by the message that
+-- the kind writes of it, which a content outside its range has not
+abbrev pub Message : Type 0
+Message = Option (List ℕ)
+
+abbrev pub TooLong : Message → Type 0
+TooLong None = ⊥
+TooLong (Some bytes) = 15 < length bytes
+
+-- the message of a slip: its block, turned back, is its nonce and this message
+abbrev pub InSlip : Made → (bytes message : List ℕ) → Type 0
+InSlip made bytes message = BlockHolds made.back made.key (take 16 bytes) (drop 16 bytes) message
 
 -- calls on a place name it in every fault, the others name none
 module _ (made : Made) (s : State) where
@@ -64,20 +78,23 @@ module _ (made : Made) (s : State) where
       × (t ≡ record s { shelf = t.shelf; out = without number s.out }))
 
   -- a slip is made in its buffer, and spends the number
-  abbrev pub slip_table : (number : ℕ) (message buffer : List ℕ) → Table BoxFault
+  abbrev pub slip_table : (number : ℕ) (message : Message) (buffer : List ℕ) → Table BoxFault
   slip_table number message buffer =
       (Not (length buffer ≡ 48), box_fault None Length)
-      ∷ (15 < length message, box_fault None Limit)
+      ∷ (TooLong message, box_fault None Limit)
+      ∷ (message ≡ None, box_fault None Content)
       ∷ (not_out number, box_fault None NotOut)
       ∷ []
 
-  abbrev pub Slips : (number : ℕ) (message buffer : List ℕ)
+  abbrev pub Slips : (number : ℕ) (message : Message) (buffer : List ℕ)
       (answer : Done) (buffer' : List ℕ) (t : State) → Type 0
   Slips number message buffer answer buffer' t =
       By (slip_table number message buffer)
       (λ fault. (answer ≡ Err fault) × (t ≡ s) × (buffer' ≡ buffer))
-      ((answer ≡ Ok tt)
-      × (buffer' ≡ slip made.forward made.key made.sign number message)
+      ((bytes : List ℕ)
+      × (message ≡ Some bytes)
+      × (answer ≡ Ok tt)
+      × (buffer' ≡ slip made.forward made.key made.sign number bytes)
       × (t ≡ record s { out = without number s.out }))
 
   -- a void ends a number
@@ -127,11 +144,7 @@ module _ (made : Made) (s : State) where
   abbrev pub unslip_table : (bytes buffer : List ℕ) → Table BoxFault
   unslip_table bytes buffer =
       (Not ((length bytes ≡ 48) × (length buffer ≡ 15)), box_fault None Length)
-      ∷ (
-        Not ((message : List ℕ)
-            × BlockHolds made.back made.key (take 16 bytes) (drop 16 bytes) message),
-        box_fault None (Mode Padding),
-      )
+      ∷ (Not ((message : List ℕ) × InSlip made bytes message), box_fault None (Mode Padding))
       ∷ []
 
   abbrev pub Unslips : (bytes buffer : List ℕ)
@@ -140,9 +153,34 @@ module _ (made : Made) (s : State) where
       By (unslip_table bytes buffer)
       (λ fault. (answer ≡ Err fault) × (buffer' ≡ left fault buffer))
       ((message : List ℕ)
-      × BlockHolds made.back made.key (take 16 bytes) (drop 16 bytes) message
+      × InSlip made bytes message
       × (answer ≡ Ok (length message))
       × (buffer' ≡ filled message))
+
+  -- the reader of a kind opens a slip as an unslip does, and gives the content that writes its
+  -- message; it changes nothing, and is no line of a log
+  module _ {Content : Type 0} (writes : Content → Option (List ℕ)) where
+    abbrev pub OfContent : (bytes : List ℕ) → Content → (message : List ℕ) → Type 0
+    OfContent bytes content message = InSlip made bytes message × (writes content ≡ Some message)
+
+    abbrev pub reader_table : (bytes buffer : List ℕ) → Table BoxFault
+    reader_table bytes buffer =
+        unslip_table bytes buffer
+        ++ ((
+          Not ((content : Content) × (message : List ℕ) × OfContent bytes content message),
+          box_fault None OtherKind,
+        )
+        ∷ [])
+
+    abbrev pub ReadsSlip : (bytes buffer : List ℕ)
+        (answer : Result Content BoxFault) (buffer' : List ℕ) → Type 0
+    ReadsSlip bytes buffer answer buffer' =
+        By (reader_table bytes buffer)
+        (λ fault. (answer ≡ Err fault) × (buffer' ≡ left fault buffer))
+        ((content : Content) × (message : List ℕ)
+        × OfContent bytes content message
+        × (answer ≡ Ok content)
+        × (buffer' ≡ filled message))
 
   -- the number at a place, which is absent where the place is empty; it changes nothing, and is no
   -- line of a log

@@ -2,6 +2,7 @@
 -- refused line, and one that only asks, comes to nothing.
 use Rattle.std.specs.Prelude.{ℕ, cond, List, [], ◌∷◌, Some, None, Ok, Err, Option, fold, ◌==◌}
 use Rattle.std.specs.List.{flat_map}
+use Rattle.box_model.specs.Calls.{Message}
 use Rattle.box_model.specs.Logs.{Line, draw, seal, slips, void, clear, read, unslip}
 
 pub data Effect : Type 0 where
@@ -11,12 +12,16 @@ pub data Effect : Type 0 where
   voided : (number : ℕ) → Effect
   cleared : (place : ℕ) → Effect
 
+abbrev pub slip_effects : (number : ℕ) → Message → (bytes : List ℕ) → List Effect
+slip_effects n None bytes = []
+slip_effects n (Some message) bytes = slipped n message bytes ∷ []
+
 abbrev pub effects : Line → List Effect
 effects (draw (Ok n)) = drew n ∷ []
 effects (draw (Err e)) = []
 effects (seal n p l m b (Ok x) r) = sealed n p l m r ∷ []
 effects (seal n p l m b (Err e) r) = []
-effects (slips n m b (Ok x) r) = slipped n m r ∷ []
+effects (slips n m b (Ok x) r) = slip_effects n m r
 effects (slips n m b (Err e) r) = []
 effects (void n (Ok x)) = voided n ∷ []
 effects (void n (Err e)) = []

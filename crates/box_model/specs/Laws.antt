@@ -59,7 +59,7 @@ pub record Kept (made : Made) (s : State) : Type 0 where
   -- the bytes of a done slip, handed to any later unslip, give its message
   pub unslips : (before between : List Line) (t : State) (n : ℕ)
       (message buffer bytes room room' : List ℕ) (answer : Result ℕ BoxFault)
-      → Log made s (before ++ (slips n message buffer (Ok tt) bytes
+      → Log made s (before ++ (slips n (Some message) buffer (Ok tt) bytes
       ∷ (between ++ (unslip bytes room answer room' ∷ [])))) t
       → length room ≡ 15 → (answer ≡ Ok (length message)) × (room' ≡ filled message)
 

@@ -1,16 +1,18 @@
 -- Logs: lines, each one call on the box as the line before left it.
-use Rattle.std.specs.Prelude.{◌≡◌, ℕ, List, [], ◌∷◌, ◌++◌, Result}
+use Rattle.std.specs.Prelude.{◌≡◌, ℕ, List, [], ◌∷◌, ◌++◌, Result, Some, None}
 use Rattle.faults.specs.declared.BoxFault.{BoxFault}
 use Rattle.octets.specs.Octets.{Octets}
 use Rattle.box_model.specs.States.{Made, State}
-use Rattle.box_model.specs.Calls.{Done, Draws, Seals, Slips, Voids, Clears, Reads, Unslips}
+use Rattle.box_model.specs.Calls.{Done, Message, Draws, Seals, Slips, Voids, Clears, Reads}
+use Rattle.box_model.specs.Calls.{Unslips}
 
 -- one call: what was handed in, the answer, and the buffer that came back
 pub data Line : Type 0 where
   draw : (answer : Result ℕ BoxFault) → Line
   seal : (number place : ℕ) (label message buffer : List ℕ)
       (answer : Done) (buffer' : List ℕ) → Line
-  slips : (number : ℕ) (message buffer : List ℕ) (answer : Done) (buffer' : List ℕ) → Line
+  slips : (number : ℕ) (message : Message) (buffer : List ℕ)
+      (answer : Done) (buffer' : List ℕ) → Line
   void : (number : ℕ) (answer : Done) → Line
   clear : (place : ℕ) (answer : Done) → Line
   read : (place : ℕ) (buffer : List ℕ) (answer : Result (ℕ × ℕ) BoxFault) (buffer' : List ℕ) → Line
@@ -27,10 +29,14 @@ Does made s (read p b a b') t = (t ≡ s) × Reads made s p b a b'
 Does made s (unslip x b a b') t = (t ≡ s) × Unslips made s x b a b'
 
 -- bytes handed in are bytes
+abbrev pub HandedMessage : Message → Type 0
+HandedMessage None = Unit {0}
+HandedMessage (Some bytes) = Octets bytes
+
 abbrev pub Handed : Line → Type 0
 Handed (draw a) = Unit {0}
 Handed (seal n p l m b a b') = Octets l × Octets m
-Handed (slips n m b a b') = Octets m
+Handed (slips n m b a b') = HandedMessage m
 Handed (void n a) = Unit {0}
 Handed (clear p a) = Unit {0}
 Handed (read p b a b') = Unit {0}

@@ -11,6 +11,7 @@ use Rattle.faults.specs.declared.ShelfCause.TheVariants.{Unfit}
 use Rattle.faults.specs.declared.BoxCause.{BoxCause}
 use Rattle.faults.specs.declared.BoxCause.TheVariants.{Mode, Shelf, Length, Limit, NotOut, UsedUp}
 use Rattle.faults.specs.declared.BoxCause.TheVariants.{SixteenOut, Empty, Filling}
+use Rattle.faults.specs.declared.BoxCause.TheVariants.{Content, OtherKind}
 use Rattle.faults.specs.declared.ModeFault.{ModeFault}
 use Rattle.faults.specs.declared.ShelfFault.{ShelfFault}
 use Rattle.faults.specs.declared.BoxFault.{BoxFault}
@@ -73,6 +74,11 @@ entry Filling =
       wipes = true;
       words = codes "length above 928, or filling not zero";
     }
+
+entry Content =
+    record { number = 15; layer = 3; wipes = false; words = codes "content outside its range" }
+entry OtherKind =
+    record { number = 16; layer = 3; wipes = true; words = codes "not a message of this kind" }
 
 -- a fault of each layer, by its cause and by the place that it names
 abbrev pub mode_fault : ModeCause → ModeFault

@@ -45,6 +45,8 @@ pub enum BoxCause {
     Length,
     /// a message over its limit
     Limit,
+    /// a slip's content outside its range
+    Content,
     /// a number that is not out in this box
     NotOut,
     /// no number is left
@@ -55,6 +57,8 @@ pub enum BoxCause {
     Empty,
     /// a record whose length is above the limit, or whose filling is not zero
     Filling,
+    /// a slip whose message the kind that is asked for cannot have written
+    OtherKind,
 }
 
 /// A refusal by the cipher or a mode; layer 1.
@@ -103,7 +107,7 @@ impl From<BoxCause> for BoxFault {
 }
 
 impl BoxCause {
-    /// The number of the cause, 1 to 13.
+    /// The number of the cause, 1 to 16; none has 14.
     pub fn number(self) -> u8
         ensures { result ≡ (entry self).number }
     {
@@ -123,6 +127,8 @@ impl BoxCause {
             BoxCause::Mode(ModeCause::Tag) => 11,
             BoxCause::Mode(ModeCause::Padding) => 12,
             BoxCause::Shelf(ShelfCause::Unfit) => 13,
+            BoxCause::Content => 15,
+            BoxCause::OtherKind => 16,
         }
     }
 
@@ -161,6 +167,8 @@ impl fmt::Display for BoxCause {
             BoxCause::Mode(ModeCause::Tag) => "the tag differs",
             BoxCause::Mode(ModeCause::Padding) => "another nonce or no padding",
             BoxCause::Shelf(ShelfCause::Unfit) => "the plate is unfit",
+            BoxCause::Content => "content outside its range",
+            BoxCause::OtherKind => "not a message of this kind",
         };
         f.write_str(words)
     }
