@@ -3,3 +3,4 @@ pub mod Placing
 pub mod Reading
 pub mod Numbering
 pub mod Sealings
+pub mod ReadingSlips
