@@ -4,3 +4,4 @@ pub mod Reading
 pub mod Numbering
 pub mod Sealings
 pub mod ReadingSlips
+pub mod Fairly
