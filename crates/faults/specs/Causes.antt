@@ -74,7 +74,6 @@ entry Filling =
       wipes = true;
       words = codes "length above 928, or filling not zero";
     }
-
 entry Content =
     record { number = 15; layer = 3; wipes = false; words = codes "content outside its range" }
 entry OtherKind =

@@ -4,3 +4,4 @@ pub mod Numbers
 pub mod Tables
 pub mod Made
 pub mod Counts
+pub mod Spelt
