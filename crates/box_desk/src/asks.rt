@@ -9,6 +9,7 @@ use archive_box::{ArchiveBox, Number, Refusal};
 use cipher::TwoWayCipher;
 use files::write_whole;
 use shelf::Shelf;
+use slip_kinds::SlipKind;
 use std::alloc::Global;
 
 pub(crate) fn draw<C: TwoWayCipher, S: Shelf>(
@@ -87,6 +88,28 @@ pub(crate) fn unslip<C: TwoWayCipher, S: Shelf>(
     let mut bytes = [0; 15];
     let length = asked.unslip(&slip, &mut bytes)?;
     Ok(Answer::Message { bytes, length })
+}
+
+// Makes a slip of a kind.
+pub(crate) fn make_slip<K: SlipKind, C: TwoWayCipher, S: Shelf>(
+    asked: &mut ArchiveBox<C, S>,
+    hand: &mut Hand,
+    number: Number,
+    content: &K::Content,
+) -> Result<Answer, Problem> {
+    let mut bytes = [0; 48];
+    let made = asked.make_slip::<K>(number, content, &mut bytes);
+    spent(asked, hand, made.map(|()| Answer::Slip(bytes)))
+}
+
+// What a slip of a kind says.
+pub(crate) fn read_slip<K: SlipKind, C: TwoWayCipher, S: Shelf>(
+    asked: &ArchiveBox<C, S>,
+    heap: Global,
+    digits: &str,
+) -> Result<K::Content, Problem> {
+    let slip = hex::decode(heap, digits)?;
+    Ok(asked.read_slip::<K>(&slip, &mut [0; 15])?)
 }
 
 pub(crate) fn save<C: TwoWayCipher, S: Image>(
