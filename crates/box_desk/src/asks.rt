@@ -1,5 +1,9 @@
-ghost use Rattle.std.specs.Prelude.{◌≡◌, ◌<◌, ◌++◌, ◌-◌, length, replicate, MatchOption};
+ghost use Rattle.std.specs.Prelude.{◌≡◌, ◌<◌, ◌++◌, ◌-◌, ℕ, List, length, replicate};
+ghost use Rattle.std.specs.Prelude.{MatchOption, OnOk};
+ghost use Rattle.box_model.specs.Calls.{Slips, ReadsSlip};
+ghost use Rattle.archive_box.specs.Boxes.{Turns, Tells};
 ghost use Rattle.box_desk.specs.Hands.{Spent};
+ghost use Rattle.box_desk.specs.Slips.{MakesSlip, ReadsDigits};
 
 use crate::answers::Answer;
 use crate::hand::Hand;
@@ -28,7 +32,8 @@ fn spent<C: TwoWayCipher, S: Shelf>(
     hand: &mut Hand,
     answer: Result<Answer, Refusal>,
 ) -> Result<Answer, Problem>
-    ensures { Spent answer hand.old.numbers.items hand.new.numbers.items result }
+    ensures hand { Spent answer hand.old.numbers.items hand.new.numbers.items result }
+    ensures done { OnOk answer (asked.new ≡ asked.old) }
 {
     match answer {
         Ok(done) => Ok(done),
@@ -96,7 +101,13 @@ pub(crate) fn make_slip<K: SlipKind, C: TwoWayCipher, S: Shelf>(
     hand: &mut Hand,
     number: Number,
     content: &K::Content,
-) -> Result<Answer, Problem> {
+) -> Result<Answer, Problem>
+    ensures { MakesSlip
+        (λ bytes. Turns C.Cipher.forward C.TwoWayCipher.back S.Shelf.meaning
+        (λ made s. Slips made s number.value (K.writes content.now) (replicate 48 0) (Ok tt) bytes)
+        asked.old asked.new)
+        number hand.old.numbers.items hand.new.numbers.items result }
+{
     let mut bytes = [0; 48];
     let made = asked.make_slip::<K>(number, content, &mut bytes);
     spent(asked, hand, made.map(|()| Answer::Slip(bytes)))
@@ -107,7 +118,13 @@ pub(crate) fn read_slip<K: SlipKind, C: TwoWayCipher, S: Shelf>(
     asked: &ArchiveBox<C, S>,
     heap: Global,
     digits: &str,
-) -> Result<K::Content, Problem> {
+) -> Result<K::Content, Problem>
+    ensures { ReadsDigits
+        (λ bytes answer. Tells C.Cipher.forward C.TwoWayCipher.back S.Shelf.meaning
+        (λ made s. (buffer : List ℕ)
+        × ReadsSlip made s K.writes bytes (replicate 15 0) answer buffer) asked.now)
+        digits.now result }
+{
     let slip = hex::decode(heap, digits)?;
     Ok(asked.read_slip::<K>(&slip, &mut [0; 15])?)
 }
