@@ -1,4 +1,5 @@
 ghost use Rattle.std.specs.Prelude.{◌≤◌};
+ghost use Rattle.cipher.specs.Meaning.{Bytes};
 
 use numbers::NumbersOut;
 
@@ -13,4 +14,6 @@ pub struct ArchiveBox<C, S> {
     pub(crate) next: u64,
     pub(crate) out: NumbersOut,
     ghost from_one: { 1 ≤ next },
+    ghost key_fits: { Bytes 32 key },
+    ghost sign_fits: { Bytes 8 sign },
 }

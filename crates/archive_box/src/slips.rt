@@ -63,7 +63,7 @@ impl<C: TwoWayCipher, S: Shelf> ArchiveBox<C, S> {
         ensures back { IfErr result (λ r. r.number ≡ number) }
         ensures shelf { self.new.shelf ≡ self.old.shelf }
         ensures slips { Turns C.Cipher.forward C.TwoWayCipher.back S.Shelf.meaning
-            (λ made s. Slips made s number.value (option_copied message) bytes.old (fault_of result)
+            (λ made s. Slips made s number.value (option_copied message.entry) bytes.old (fault_of result)
             bytes.new)
             self.old self.new }
     {
@@ -85,7 +85,7 @@ impl<C: TwoWayCipher, S: Shelf> ArchiveBox<C, S> {
     ) -> Result<(), BoxFault>
         ensures shelf { self.new.shelf ≡ self.old.shelf }
         ensures slips { Turns C.Cipher.forward C.TwoWayCipher.back S.Shelf.meaning
-            (λ made s. Slips made s number (option_copied message) bytes.old result bytes.new)
+            (λ made s. Slips made s number (option_copied message.entry) bytes.old result bytes.new)
             self.old self.new }
     {
         let bytes = bytes.as_mut_array().ok_or(BoxCause::Length)?;

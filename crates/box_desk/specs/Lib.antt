@@ -1,3 +1,4 @@
 pub mod Digits
 pub mod Hands
 pub mod Makings
+pub mod Slips

@@ -1,5 +1,5 @@
 -- What the next box is made with, or why there is nothing to make one with.
-use Rattle.std.specs.Prelude.{◌≡◌, ◌≢◌, ℕ, List, Bool, true, false, Option, Some, None, Ok, Err}
+use Rattle.std.specs.Prelude.{◌≡◌, ◌≢◌, ℕ, List, true, false, Some, None, Ok, Err}
 use Rattle.std.specs.Prelude.{Result}
 use Rattle.hex.specs.Hex.{decode_sized}
 use Rattle.box_desk.specs.declared.problems.Problem.{Problem}

@@ -3,6 +3,7 @@ ghost use Rattle.std.specs.Prelude.{◌≡◌, ◌≢◌, ◌<◌, ◌++◌, ◌
 use crate::shown::{Digits, Shown};
 use archive_box::Sheet;
 use std::fmt;
+use trade_slips::{Licence, Loan, Receipt};
 
 /// What a line was answered.
 #[derive(Clone, Copy)]
@@ -13,6 +14,9 @@ pub(crate) enum Answer {
     NumberAt(Option<u64>),
     Slip([u8; 48]),
     Message { bytes: [u8; 15], length: usize },
+    Licence(Licence),
+    Loan(Loan),
+    Receipt(Receipt),
 }
 
 impl fmt::Display for Answer {
@@ -31,6 +35,11 @@ impl fmt::Display for Answer {
                 let message = Shown(bytes.get(..*length).unwrap_or(bytes));
                 write!(f, "message {message}")
             }
+            Answer::Licence(Licence { design, copies }) => {
+                write!(f, "design {design}, copies {copies}")
+            }
+            Answer::Loan(Loan { design, day }) => write!(f, "design {design}, day {day}"),
+            Answer::Receipt(Receipt { cents }) => write!(f, "cents {cents}"),
         }
     }
 }

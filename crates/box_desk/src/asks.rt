@@ -1,5 +1,9 @@
-ghost use Rattle.std.specs.Prelude.{◌≡◌, ◌<◌, ◌++◌, ◌-◌, length, replicate, MatchOption};
+ghost use Rattle.std.specs.Prelude.{◌≡◌, ◌<◌, ◌++◌, ◌-◌, ℕ, List, length, replicate};
+ghost use Rattle.std.specs.Prelude.{MatchOption, OnOk};
+ghost use Rattle.box_model.specs.Calls.{Slips, ReadsSlip};
+ghost use Rattle.archive_box.specs.Boxes.{Turns, Tells};
 ghost use Rattle.box_desk.specs.Hands.{Spent};
+ghost use Rattle.box_desk.specs.Slips.{MakesSlip, ReadsDigits};
 
 use crate::answers::Answer;
 use crate::hand::Hand;
@@ -9,6 +13,7 @@ use archive_box::{ArchiveBox, Number, Refusal};
 use cipher::TwoWayCipher;
 use files::write_whole;
 use shelf::Shelf;
+use slip_kinds::SlipKind;
 use std::alloc::Global;
 
 pub(crate) fn draw<C: TwoWayCipher, S: Shelf>(
@@ -27,7 +32,8 @@ fn spent<C: TwoWayCipher, S: Shelf>(
     hand: &mut Hand,
     answer: Result<Answer, Refusal>,
 ) -> Result<Answer, Problem>
-    ensures { Spent answer hand.old.numbers.items hand.new.numbers.items result }
+    ensures hand { Spent answer hand.old.numbers.items hand.new.numbers.items result }
+    ensures done { OnOk answer (asked.new ≡ asked.old) }
 {
     match answer {
         Ok(done) => Ok(done),
@@ -87,6 +93,40 @@ pub(crate) fn unslip<C: TwoWayCipher, S: Shelf>(
     let mut bytes = [0; 15];
     let length = asked.unslip(&slip, &mut bytes)?;
     Ok(Answer::Message { bytes, length })
+}
+
+// Makes a slip of a kind.
+pub(crate) fn make_slip<K: SlipKind, C: TwoWayCipher, S: Shelf>(
+    asked: &mut ArchiveBox<C, S>,
+    hand: &mut Hand,
+    number: Number,
+    content: &K::Content,
+) -> Result<Answer, Problem>
+    ensures { MakesSlip
+        (λ bytes. Turns C.Cipher.forward C.TwoWayCipher.back S.Shelf.meaning
+        (λ made s. Slips made s number.value (K.writes content.now) (replicate 48 0) (Ok tt) bytes)
+        asked.old asked.new)
+        number hand.old.numbers.items hand.new.numbers.items result }
+{
+    let mut bytes = [0; 48];
+    let made = asked.make_slip::<K>(number, content, &mut bytes);
+    spent(asked, hand, made.map(|()| Answer::Slip(bytes)))
+}
+
+// What a slip of a kind says.
+pub(crate) fn read_slip<K: SlipKind, C: TwoWayCipher, S: Shelf>(
+    asked: &ArchiveBox<C, S>,
+    heap: Global,
+    digits: &str,
+) -> Result<K::Content, Problem>
+    ensures { ReadsDigits
+        (λ bytes answer. Tells C.Cipher.forward C.TwoWayCipher.back S.Shelf.meaning
+        (λ made s. (buffer : List ℕ)
+        × ReadsSlip made s K.writes bytes (replicate 15 0) answer buffer) asked.now)
+        digits.now result }
+{
+    let slip = hex::decode(heap, digits)?;
+    Ok(asked.read_slip::<K>(&slip, &mut [0; 15])?)
 }
 
 pub(crate) fn save<C: TwoWayCipher, S: Image>(

@@ -6,7 +6,10 @@ use crate::problems::Problem;
 use archive_box::{ArchiveBox, Number};
 use cipher::TwoWayCipher;
 use saturnin_words::WordForm;
-use script::BoxCall;
+use script::{BoxCall, TradeCall};
+use shelf::Shelf;
+use std::alloc::Global;
+use trade_slips::{Licences, Loans, Receipts};
 use tray::Tray;
 
 /// Who answers the calls on a box.
@@ -87,6 +90,7 @@ impl<C: TwoWayCipher, S: Image> Worker for ArchiveBox<C, S> {
             BoxCall::Unslip { digits } => asks::unslip(self, rt.alloc(), digits),
             BoxCall::Number { place } => Ok(Answer::NumberAt(self.number_at(place)?)),
             BoxCall::Save { file } => asks::save(self, rt, file),
+            BoxCall::Trade(call) => answer_trade(self, rt.alloc(), call, hand),
         }
     }
 
@@ -97,5 +101,40 @@ impl<C: TwoWayCipher, S: Image> Worker for ArchiveBox<C, S> {
 
     fn end(&mut self, number: Number) -> Result<(), Problem> {
         Ok(self.void(number)?)
+    }
+}
+
+// Makes or reads a slip of a kind.
+fn answer_trade<C: TwoWayCipher, S: Shelf>(
+    asked: &mut ArchiveBox<C, S>,
+    heap: Global,
+    call: TradeCall,
+    hand: &mut Hand,
+) -> Result<Answer, Problem> {
+    match call {
+        TradeCall::Licence { number, licence } => {
+            let number = hand.take(number)?;
+            asks::make_slip::<Licences, C, S>(asked, hand, number, &licence)
+        }
+        TradeCall::Loan { number, loan } => {
+            let number = hand.take(number)?;
+            asks::make_slip::<Loans, C, S>(asked, hand, number, &loan)
+        }
+        TradeCall::Receipt { number, receipt } => {
+            let number = hand.take(number)?;
+            asks::make_slip::<Receipts, C, S>(asked, hand, number, &receipt)
+        }
+        TradeCall::ReadLicence { digits } => {
+            let licence = asks::read_slip::<Licences, C, S>(asked, heap, digits)?;
+            Ok(Answer::Licence(licence))
+        }
+        TradeCall::ReadLoan { digits } => {
+            let loan = asks::read_slip::<Loans, C, S>(asked, heap, digits)?;
+            Ok(Answer::Loan(loan))
+        }
+        TradeCall::ReadReceipt { digits } => {
+            let receipt = asks::read_slip::<Receipts, C, S>(asked, heap, digits)?;
+            Ok(Answer::Receipt(receipt))
+        }
     }
 }

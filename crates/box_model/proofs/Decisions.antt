@@ -1,9 +1,10 @@
 -- Each row of a call's table applies or does not, whatever was handed in and whatever the box is.
-use Rattle.std.proofs.Common.{◌≡◌, ℕ, ◌+◌, ◌-◌, List, length, take, drop, sym, refl, ap, ◌∙◌, subst}
+use Rattle.std.proofs.Common.{◌≡◌, ℕ, ◌+◌, ◌-◌, List, length, take, drop, Some, None, sym, refl, ap, ◌∙◌, subst}
 use Rattle.std.proofs.Common.{arith}
 use mathlib.Core.List.{List-discrete}
 use native.Mathlib.Decide.{ℕ_discrete, dec_le, dec_lt}
 use Rattle.std.proofs.lemmas.List.{take_at, drop_at}
+use Rattle.std.proofs.lemmas.Option.{none-some}
 use Rattle.octets.specs.Octets.{zeros, part}
 use Rattle.modes.specs.Bytes.{padded}
 use Rattle.modes.specs.Short.{BlockHolds}
@@ -12,7 +13,8 @@ use Rattle.records.specs.Records.{empty, length_in, tag_in, WellFormed}
 use Rattle.records.specs.Sheets.{right_tag}
 use Rattle.numbers.specs.Counting.{count}
 use Rattle.box_model.specs.States.{Made, State}
-use Rattle.box_model.specs.Calls.{not_out, draw_table, seal_table, slip_table, void_table}
+use Rattle.box_model.specs.Calls.{Message, TooLong, not_out, draw_table, seal_table, slip_table}
+use Rattle.box_model.specs.Calls.{void_table}
 use Rattle.box_model.specs.Calls.{clear_table, read_table, unslip_table, number_table}
 use Rattle.box_model.proofs.Tables.{Decided, dec_not, dec_both, dec_true, dec_below}
 
@@ -57,6 +59,14 @@ well_formed_or_not bytes =
     let n : ℕ = length_in bytes in
     dec_both (dec_le n 928) (same_list (part (64 + n) (928 - n) bytes) (zeros (928 - n)))
 
+too_long_or_not : (message : Message) → Dec (TooLong message)
+too_long_or_not None = no (λ h. h)
+too_long_or_not (Some bytes) = dec_lt _ (length bytes)
+
+none_or_not : (message : Message) → Dec (message ≡ None)
+none_or_not None = yes refl
+none_or_not (Some bytes) = no (λ e. none-some bytes (sym e))
+
 module _ (made : Made) (s : State) where
   out_or_not : (number : ℕ) → Dec (not_out made s number)
   out_or_not number = ℕ_discrete (count number s.out) 0
@@ -77,10 +87,12 @@ module _ (made : Made) (s : State) where
     ),
   )
 
-  pub slip_decided : (number : ℕ) (message buffer : List ℕ)
+  pub slip_decided : (number : ℕ) (message : Message) (buffer : List ℕ)
       → Decided (slip_table made s number message buffer)
-  slip_decided number message buffer =
-      (dec_not (ℕ_discrete (length buffer) _), (dec_lt _ (length message), (out_or_not number, tt)))
+  slip_decided number message buffer = (
+    dec_not (ℕ_discrete (length buffer) _),
+    (too_long_or_not message, (none_or_not message, (out_or_not number, tt))),
+  )
 
   pub void_decided : (number : ℕ) → Decided (void_table made s number)
   void_decided number = (out_or_not number, tt)

@@ -8,4 +8,5 @@ pub mod Opening
 pub mod Reading
 pub mod Places
 pub mod Slips
+pub mod OwnKinds
 pub mod Keeping

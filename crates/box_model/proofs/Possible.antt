@@ -11,7 +11,7 @@ use Rattle.records.specs.Records.{empty, number_in, length_in}
 use Rattle.records.specs.Sheets.{sheet, slip, opened}
 use Rattle.numbers.specs.Counting.{without}
 use Rattle.box_model.specs.States.{Made, State}
-use Rattle.box_model.specs.Calls.{Done, Draws, Seals, Slips, Voids, Clears, Reads, Unslips}
+use Rattle.box_model.specs.Calls.{Done, Message, Draws, Seals, Slips, Voids, Clears, Reads, Unslips}
 use Rattle.box_model.specs.Calls.{TellsNumber, draw_table, seal_table, slip_table, void_table}
 use Rattle.box_model.specs.Calls.{clear_table, read_table, unslip_table, number_table}
 use Rattle.box_model.specs.Answers.{AlwaysAnswerable}
@@ -61,18 +61,30 @@ module _ (made : Made) (s : State) where
         (refl, refl, placed_at p bytes s.shelf, refl),
       ))
 
-  slip_can : (n : ℕ) (message buffer : List ℕ)
+  slip_can : (n : ℕ) (message : Message) (buffer : List ℕ)
       → (x : Done × List ℕ × State) × Slips made s n message buffer x.0 x.1 x.2
   slip_can n message buffer =
       outcome {X = Done × List ℕ × State} (λ x f. (x.0 ≡ Err f) × (x.2 ≡ s) × (x.1 ≡ buffer))
-      (λ x. (x.0 ≡ Ok tt) × (x.1 ≡ slip made.forward made.key made.sign n message)
+      (λ x. (bytes : List ℕ) × (message ≡ Some bytes) × (x.0 ≡ Ok tt)
+      × (x.1 ≡ slip made.forward made.key made.sign n bytes)
       × (x.2 ≡ record s { out = without n s.out }))
       (λ f. (Err f, buffer, s)) (λ f. (refl, refl, refl))
       (slip_table made s n message buffer) (slip_decided made s n message buffer)
-      (λ c. (
-        (Ok tt, slip made.forward made.key made.sign n message, record s { out = without n s.out }),
-        (refl, refl, refl),
-      ))
+      (λ c. some message refl c.1.1.0)
+    where
+      some : (handed : Message) → message ≡ handed → Not (message ≡ None)
+          → (x : Done × List ℕ × State) × ((bytes : List ℕ) × (message ≡ Some bytes)
+          × (x.0 ≡ Ok tt) × (x.1 ≡ slip made.forward made.key made.sign n bytes)
+          × (x.2 ≡ record s { out = without n s.out }))
+      some None e never = absurd (never e)
+      some (Some bytes) e never = (
+        (
+          Ok tt,
+          slip made.forward made.key made.sign n bytes,
+          record s { out = without n s.out },
+        ),
+        (bytes, e, refl, refl, refl),
+      )
 
   void_can : (n : ℕ) → (x : Done × State) × Voids made s n x.0 x.1
   void_can n =

@@ -1,8 +1,8 @@
 -- The bytes of a done slip open to its message.
-use Rattle.std.proofs.Common.{◌≡◌, ℕ, ◌≤◌, List, ◌++◌, length, take, drop, Ok, Err, Result, sym}
-use Rattle.std.proofs.Common.{refl, ap, ◌∙◌, arith, lit≤}
+use Rattle.std.proofs.Common.{◌≡◌, ℕ, ◌<◌, ◌≤◌, List, ◌++◌, length, take, drop, Some, Ok, Err}
+use Rattle.std.proofs.Common.{Result, sym, refl, ap, ◌∙◌, subst, arith, lit≤}
 use Rattle.std.proofs.lemmas.List.{take_at, drop_at, length-append, append_cancel_left}
-use Rattle.faults.specs.Tables.{Clear}
+use Rattle.faults.specs.Tables.{Not}
 use Rattle.faults.specs.declared.BoxFault.{BoxFault}
 use Rattle.faults.proofs.Tables.{done_when}
 use Rattle.faults.proofs.Results.{never_both}
@@ -11,18 +11,23 @@ use Rattle.octets.proofs.Numbers.{append-bytes, big_endian_bytes, length-big_end
 use Rattle.cipher.specs.Meaning.{Bytes, Takes}
 use Rattle.cipher.proofs.Back.{turned_back}
 use Rattle.modes.specs.Bytes.{padded}
-use Rattle.modes.specs.Short.{short, BlockHolds, filled}
+use Rattle.modes.specs.Short.{short, filled}
 use Rattle.modes.proofs.Texts.{length-padded, padded-bytes}
 use Rattle.modes.proofs.Shortly.{padded_once}
 use Rattle.records.specs.Sheets.{nonce_of, slip}
-use Rattle.numbers.specs.Counting.{without}
 use Rattle.box_model.specs.States.{Made, Fair, State}
-use Rattle.box_model.specs.Calls.{Done, slip_table}
+use Rattle.box_model.specs.Calls.{Done, Message, TooLong, InSlip, slip_table, Slips}
 use Rattle.box_model.specs.Logs.{Line, Handed, Does, slips, unslip}
 
 -- a line of some log
 abbrev pub Stood : Made → Line → Type 0
 Stood made l = (t : State) × (u : State) × Handed l × Does made t l u
+
+-- a slip holds one message at most
+pub one_in_slip : (made : Made) (bytes m message : List ℕ)
+    → InSlip made bytes m → InSlip made bytes message → m ≡ message
+one_in_slip made bytes m message a b =
+    padded_once m message (append_cancel_left (take 16 bytes) _ _ (sym a.1 ∙ b.1))
 
 module _ (made : Made) (fair : Fair made) where
   nonce_fits : (n : ℕ) → Bytes 16 (nonce_of made.sign n)
@@ -48,49 +53,45 @@ module _ (made : Made) (fair : Fair made) where
     );
   }
 
-  pub slip-opens : (n : ℕ) (message buffer bytes room room' : List ℕ) (answer : Result ℕ BoxFault)
-      → Stood made (slips n message buffer (Ok tt) bytes)
-      → Stood made (unslip bytes room answer room')
-      → length room ≡ 15 → (answer ≡ Ok (length message)) × (room' ≡ filled message)
+  -- what a done slip was handed, and left
+  pub slip_made : (t u : State) (n : ℕ) (handed : Message) (buffer bytes : List ℕ)
+      → Slips made t n handed buffer (Ok tt) bytes u
+      → (message : List ℕ) × (handed ≡ Some message) × (length message ≤ 15)
+      × (bytes ≡ slip made.forward made.key made.sign n message)
+  slip_made t u n handed buffer bytes does =
+      let done = done_when (λ f. (◌≡◌ {A = Done} (Ok tt) (Err f)) × (u ≡ t) × (bytes ≡ buffer)) _
+      (slip_table made t n handed buffer) (λ f r. never_both tt f r.0) does in
+      let fits : Not (15 < length done.1.0) = subst (λ h. Not (TooLong h)) done.1.1 done.0.1.0 in
+      (done.1.0, done.1.1, omega (arith, fits), done.1.3)
+
+  -- it holds its message
+  pub slip_holds : (n : ℕ) (message bytes : List ℕ) → length message ≤ 15 → Octets message
+      → bytes ≡ slip made.forward made.key made.sign n message
+      → (length bytes ≡ 48) × InSlip made bytes message
   unfolding short
-  slip-opens n message buffer bytes room room' answer a b fits =
-      let only : opened.0 ≡ message =
-      padded_once opened.0 message
-      (append_cancel_left (take 16 bytes) _ _ (sym opened.1.1 ∙ from.1)) in
-      (opened.2 ∙ ap (λ m. Ok (length m)) only, opened.3 ∙ ap filled only)
+  slip_holds n message bytes small octets is = (whole, from)
     where
       nonce : List ℕ
       nonce = nonce_of made.sign n
 
-      done : Clear (slip_table made a.0 n message buffer)
-          × ((◌≡◌ {A = Done} (Ok tt) (Ok tt))
-          × (bytes ≡ slip made.forward made.key made.sign n message)
-          × (a.1 ≡ record a.0 { out = without n a.0.out }))
-      done =
-          done_when (λ f. (◌≡◌ {A = Done} (Ok tt) (Err f)) × (a.1 ≡ a.0) × (bytes ≡ buffer)) _
-          (slip_table made a.0 n message buffer) (λ f r. never_both tt f r.0) a.3
-
-      small : length message ≤ 15
-      small = omega (arith, done.0.1.0)
-
       taken : Takes made.key 6 10 (nonce ++ padded 16 message)
-      taken = slip-taken n message small a.2
+      taken = slip-taken n message small octets
 
       block : List ℕ
       block = made.forward made.key 6 10 (nonce ++ padded 16 message)
 
       front : take 16 bytes ≡ nonce
-      front = ap (take 16) done.1.1 ∙ take_at nonce block 16 (nonce_fits n).0
+      front = ap (take 16) is ∙ take_at nonce block 16 (nonce_fits n).0
 
       back : drop 16 bytes ≡ block
-      back = ap (drop 16) done.1.1 ∙ drop_at nonce block 16 (nonce_fits n).0
+      back = ap (drop 16) is ∙ drop_at nonce block 16 (nonce_fits n).0
 
       whole : length bytes ≡ 48
       whole =
-          ap length done.1.1 ∙ length-append nonce block
+          ap length is ∙ length-append nonce block
           ∙ omega (arith, (nonce_fits n).0, (fair.gives_blocks made.key 6 10 _ taken).0)
 
-      from : BlockHolds made.back made.key (take 16 bytes) (drop 16 bytes) message
+      from : InSlip made bytes message
       from = (
         small,
         ap (made.back made.key 6 10) back
@@ -100,6 +101,15 @@ module _ (made : Made) (fair : Fair made) where
             ∙ ap (λ xs. xs ++ padded 16 message) (sym front),
       )
 
-      opened : (m : List ℕ) × BlockHolds made.back made.key (take 16 bytes) (drop 16 bytes) m
-          × (answer ≡ Ok (length m)) × (room' ≡ filled m)
-      opened = (b.3.1.1 (λ no'. no' (whole, fits))).1 (λ no'. no' (message, from))
+  pub slip-opens : (n : ℕ) (message buffer bytes room room' : List ℕ) (answer : Result ℕ BoxFault)
+      → Stood made (slips n (Some message) buffer (Ok tt) bytes)
+      → Stood made (unslip bytes room answer room')
+      → length room ≡ 15 → (answer ≡ Ok (length message)) × (room' ≡ filled message)
+  slip-opens n message buffer bytes room room' answer a b fits =
+      let m = slip_made a.0 a.1 n (Some message) buffer bytes a.3 in
+      let same : message ≡ m.0 = cc (m.1) in
+      let from = slip_holds n message bytes (omega (arith, m.2, ap length same)) a.2
+      (m.3 ∙ ap (slip made.forward made.key made.sign n) (sym same)) in
+      let opened = (b.3.1.1 (λ no'. no' (from.0, fits))).1 (λ no'. no' (message, from.1)) in
+      let only : opened.0 ≡ message = one_in_slip made bytes opened.0 message opened.1 from.1 in
+      (opened.2 ∙ ap (λ m. Ok (length m)) only, opened.3 ∙ ap filled only)

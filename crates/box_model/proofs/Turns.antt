@@ -1,6 +1,6 @@
 -- What each effect makes of a box, exactly, and that a log does what its effects say.
 use Rattle.std.proofs.Common.{◌≡◌, ℕ, ◌+◌, ◌<◌, ◌≤◌, List, [], ◌∷◌, ◌++◌, length, Ok, Err, Result}
-use Rattle.std.proofs.Common.{sym, ap, ◌∙◌, subst, ⊎_elim, append_assoc, arith}
+use Rattle.std.proofs.Common.{Some, None, refl, sym, ap, ◌∙◌, subst, ⊎_elim, append_assoc, arith}
 use Rattle.std.proofs.lemmas.List.{append-nil, flat_map_more}
 use Rattle.faults.specs.Tables.{Table, By}
 use Rattle.faults.specs.declared.BoxFault.{BoxFault}
@@ -101,18 +101,26 @@ module _ (made : Made) (s t : State) where
         omega (arith, k.0.1.0),
       )
 
-  slip_turn : (n : ℕ) (m b : List ℕ) (x : Unit {0}) (r : List ℕ) → Slips made s n m b (Ok x) r t
-      → Turn made s (slipped n m r) t
+  slip_turn : (n : ℕ) (m b : List ℕ) (x : Unit {0}) (r : List ℕ)
+      → Slips made s n (Some m) b (Ok x) r t → Turn made s (slipped n m r) t
   slip_turn n m b x r d =
       let k = done_when (λ f. (◌≡◌ {A = Done} (Ok x) (Err f)) × (t ≡ s) × (r ≡ b)) _
-      (slip_table made s n m b) (λ f r. never_both tt f r.0) d in (
+      (slip_table made s n (Some m) b) (λ f r. never_both tt f r.0) d in (
         record {
-          was_out = omega (arith, k.0.1.1.0);
-          next = ap (λ u. u.next) k.1.2;
-          out = ap (λ u. u.out) k.1.2;
+          was_out = omega (arith, k.0.1.1.1.0);
+          next = ap (λ u. u.next) k.1.4;
+          out = ap (λ u. u.out) k.1.4;
         },
-        ap (λ u. u.shelf) k.1.2,
+        ap (λ u. u.shelf) k.1.4,
       )
+
+  -- a content that has no message is not done
+  slip_of_none : (n : ℕ) (b : List ℕ) (x : Unit {0}) (r : List ℕ)
+      → Slips made s n None b (Ok x) r t → ⊥
+  slip_of_none n b x r d =
+      let k = done_when (λ f. (◌≡◌ {A = Done} (Ok x) (Err f)) × (t ≡ s) × (r ≡ b)) _
+      (slip_table made s n None b) (λ f r. never_both tt f r.0) d in
+      k.0.1.1.0 refl
 
   void_turn : (n : ℕ) (x : Unit {0}) → Voids made s n (Ok x) t → Turn made s (voided n) t
   void_turn n x d =
@@ -147,11 +155,12 @@ module _ (made : Made) where
       still made s t (stays (λ f. (◌≡◌ {A = Done} (Err e) (Err f)) × (t ≡ s) × (r ≡ b)) _ s t
       (seal_table made s n p l m b) (seal_decided made s n p l m b) (λ f r. r.1)
       (λ k. never_both tt e (sym k.0)) d)
-  each s t (slips n m b (Ok x) r) d = single (slip_turn made s t n m b x r d)
+  each s t (slips n (Some m) b (Ok x) r) d = single (slip_turn made s t n m b x r d)
+  each s t (slips n None b (Ok x) r) d = absurd (slip_of_none made s t n b x r d)
   each s t (slips n m b (Err e) r) d =
       still made s t (stays (λ f. (◌≡◌ {A = Done} (Err e) (Err f)) × (t ≡ s) × (r ≡ b)) _ s t
       (slip_table made s n m b) (slip_decided made s n m b) (λ f r. r.1)
-      (λ k. never_both tt e (sym k.0)) d)
+      (λ k. never_both tt e (sym k.2)) d)
   each s t (void n (Ok x)) d = single (void_turn made s t n x d)
   each s t (void n (Err e)) d =
       still made s t (stays (λ f. (◌≡◌ {A = Done} (Err e) (Err f)) × (t ≡ s)) _ s t

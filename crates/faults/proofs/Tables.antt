@@ -1,5 +1,5 @@
 -- What a table of refusals settles.
-use Rattle.std.proofs.Common.{◌≡◌, ℕ, [], ◌∷◌, inl, inr}
+use Rattle.std.proofs.Common.{◌≡◌, ℕ, [], ◌∷◌, ◌++◌, inl, inr}
 use Rattle.std.proofs.lemmas.Bool.{cases_eq}
 use Rattle.faults.specs.Tables.{Not, Table, By, Clear}
 
@@ -25,3 +25,9 @@ by_follows (row ∷ rows) f g b = (λ r. f row.1 (b.0 r), λ n. by_follows rows 
 -- facts of numbers that are not refused hold
 pub stable_eq : (a b : ℕ) → Not (Not (a ≡ b)) → a ≡ b
 stable_eq a b n = elim (cases_eq a b) [ inl e ↦ e | inr m ↦ absurd (n m) ]
+
+-- and by a longer table, whose further rows decide where the first were done with
+module _ {Cause : Type 0} (refused refused' : Cause → Type 0) (done done' : Type 0) (more : Table Cause) where
+  pub by_then : (rows : Table Cause) → ((c : Cause) → refused c → refused' c) → (done → By more refused' done') → By rows refused done → By (rows ++ more) refused' done'
+  by_then [] f g b = g b
+  by_then (row ∷ rows) f g b = (λ r. f row.1 (b.0 r), λ n. by_then rows f g (b.1 n))

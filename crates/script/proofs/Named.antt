@@ -1,5 +1,5 @@
 -- The names of calls are text.
-use Rattle.std.proofs.Common.{◌≡◌, ℕ, true, List, [], ◌∷◌, ◌⊎◌, ⊎_elim, refl}
+use Rattle.std.proofs.Common.{◌≡◌, ℕ, true, List, [], ◌∷◌, ⊎_elim, refl}
 use Rattle.std.specs.List.{list_all}
 use Rattle.script.specs.Names.{call_names, OneOf}
 use Rattle.script.specs.Words.{IsText}

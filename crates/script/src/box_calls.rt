@@ -3,7 +3,8 @@ ghost use Rattle.script.specs.Spelling.{SpellsBoxCall};
 ghost use Rattle.script.specs.Words.{Parses};
 
 use crate::messages::Message;
-use crate::words::{only_number, only_place, only_text, split_number, split_place, split_word};
+use crate::trade_calls::TradeCall;
+use crate::words::{only_text, only_u32, only_u64, split_u32, split_u64, split_word};
 
 /// A call on a box, other than a read. A number is named by its value.
 #[derive(Clone, Copy)]
@@ -34,6 +35,7 @@ pub enum BoxCall<'a> {
     Save {
         file: &'a str,
     },
+    Trade(TradeCall<'a>),
 }
 
 impl<'a> BoxCall<'a> {
@@ -45,7 +47,7 @@ impl<'a> BoxCall<'a> {
             "seal" => BoxCall::of_seal(rest),
             "slip" => BoxCall::of_slip(rest),
             "void" => Some(BoxCall::Void {
-                number: only_number(rest)?,
+                number: only_u64(rest)?,
             }),
             "unslip" => Some(BoxCall::Unslip {
                 digits: only_text(rest)?,
@@ -54,20 +56,20 @@ impl<'a> BoxCall<'a> {
                 file: only_text(rest)?,
             }),
             "clear" => Some(BoxCall::Clear {
-                place: only_place(rest)?,
+                place: only_u32(rest)?,
             }),
             "number" => Some(BoxCall::Number {
-                place: only_place(rest)?,
+                place: only_u32(rest)?,
             }),
-            _ => None,
+            _ => Some(BoxCall::Trade(TradeCall::of(name, rest)?)),
         }
     }
 
     fn of_seal(rest: &'a [u8]) -> Option<BoxCall<'a>>
         ensures { Parses (SpellsBoxCall (codes "seal") rest.now) result }
     {
-        let (number, rest) = split_number(rest)?;
-        let (place, rest) = split_place(rest)?;
+        let (number, rest) = split_u64(rest)?;
+        let (place, rest) = split_u32(rest)?;
         let (label, message) = split_word(rest);
         Some(BoxCall::Seal {
             number,
@@ -80,7 +82,7 @@ impl<'a> BoxCall<'a> {
     fn of_slip(rest: &'a [u8]) -> Option<BoxCall<'a>>
         ensures { Parses (SpellsBoxCall (codes "slip") rest.now) result }
     {
-        let (number, message) = split_number(rest)?;
+        let (number, message) = split_u64(rest)?;
         Some(BoxCall::Slip {
             number,
             message: Message::of(message)?,

@@ -4,7 +4,7 @@ ghost use Rattle.script.specs.Words.{Parses};
 
 use crate::box_calls::BoxCall;
 use crate::settings::Setting;
-use crate::words::{only_number, only_place, split_word, text_of, without_blanks};
+use crate::words::{only_u32, only_u64, split_word, text_of, without_blanks};
 
 /// What a line of a script calls for.
 #[derive(Clone, Copy)]
@@ -34,7 +34,7 @@ impl<'a> Call<'a> {
         match name {
             "make" => Call::of_make(rest),
             "read" => Some(Call::Read {
-                place: only_place(rest)?,
+                place: only_u32(rest)?,
             }),
             "key" | "form" | "tray" | "plate" => Some(Call::Set(Setting::of(name, rest)?)),
             _ => Some(Call::Ask(BoxCall::of(name, rest)?)),
@@ -47,7 +47,7 @@ impl<'a> Call<'a> {
         let (sign, first) = split_word(rest);
         Some(Call::Make {
             sign: text_of(sign)?,
-            first: only_number(first)?,
+            first: only_u64(first)?,
         })
     }
 }

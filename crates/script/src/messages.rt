@@ -2,7 +2,7 @@ ghost use Rattle.std.specs.Prelude.{◌≡◌, ℕ, List, IfOk, MatchOption};
 ghost use Rattle.script.specs.Messages.{SpellsMessage, Starred, bytes_of};
 ghost use Rattle.script.specs.Words.{Parses};
 
-use crate::words::{count_in, is_numeral};
+use crate::words::{is_numeral, u16_in};
 use std::alloc::{AllocError, Global};
 
 /// A message as a line has it.
@@ -21,7 +21,7 @@ impl<'a> Message<'a> {
         ensures { Parses (SpellsMessage text.now) result }
     {
         if let Some(digits) = starred(text) {
-            return Some(Message::Many(count_in(digits)?));
+            return Some(Message::Many(u16_in(digits)?));
         }
         match text {
             [] => None,

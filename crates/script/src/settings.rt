@@ -2,7 +2,7 @@ ghost use Rattle.std.specs.Prelude.{codes};
 ghost use Rattle.script.specs.Spelling.{SpellsSetting};
 ghost use Rattle.script.specs.Words.{Parses};
 
-use crate::words::{only_place, only_text, split_word, text_of};
+use crate::words::{only_text, only_u32, split_word, text_of};
 
 /// The forms of the cipher.
 #[derive(Clone, Copy)]
@@ -53,7 +53,7 @@ impl<'a> Setting<'a> {
         let (file, rest) = split_word(rest);
         Some(Setting::Plate {
             file: text_of(file)?,
-            places: only_place(rest)?,
+            places: only_u32(rest)?,
         })
     }
 }

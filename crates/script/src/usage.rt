@@ -34,6 +34,12 @@ fn usage_named(name: &str) -> Option<&'static str>
         "unslip" => Some("unslip HEX"),
         "number" => Some("number PLACE"),
         "save" => Some("save FILE"),
+        "licence" => Some("licence NUMBER DESIGN COPIES"),
+        "loan" => Some("loan NUMBER DESIGN DAY"),
+        "receipt" => Some("receipt NUMBER CENTS"),
+        "read-licence" => Some("read-licence HEX"),
+        "read-loan" => Some("read-loan HEX"),
+        "read-receipt" => Some("read-receipt HEX"),
         _ => None,
     }
 }

@@ -60,22 +60,22 @@ fn first_letter(text: &[u8]) -> Option<usize>
 }
 
 // The number that a text begins with, and what follows it.
-pub(crate) fn split_number(text: &[u8]) -> Option<(u64, &[u8])>
+pub(crate) fn split_u64(text: &[u8]) -> Option<(u64, &[u8])>
     ensures { MatchOption result ((n : ℕ) → ¬ (Numeral 64 (first_word text.now) n))
         (λ found. Numeral 64 (first_word text.now) found.0
         × (found.1.now ≡ after_word text.now)) }
 {
     let (word, rest) = split_word(text);
-    Some((number_in(word)?, rest))
+    Some((u64_in(word)?, rest))
 }
 
-pub(crate) fn split_place(text: &[u8]) -> Option<(u32, &[u8])>
+pub(crate) fn split_u32(text: &[u8]) -> Option<(u32, &[u8])>
     ensures { MatchOption result ((n : ℕ) → ¬ (Numeral 32 (first_word text.now) n))
         (λ found. Numeral 32 (first_word text.now) found.0
         × (found.1.now ≡ after_word text.now)) }
 {
     let (word, rest) = split_word(text);
-    Some((place_in(word)?, rest))
+    Some((u32_in(word)?, rest))
 }
 
 // The word that a text is, if it is one word and no more.
@@ -100,19 +100,19 @@ pub(crate) fn text_of(word: &[u8]) -> Option<&str>
 }
 
 // The number that a word spells.
-fn number_in(word: &[u8]) -> Option<u64>
+fn u64_in(word: &[u8]) -> Option<u64>
     ensures { Parses (Numeral 64 word.now) result }
 {
     text_of(word)?.parse::<u64>().ok()
 }
 
-fn place_in(word: &[u8]) -> Option<u32>
+fn u32_in(word: &[u8]) -> Option<u32>
     ensures { Parses (Numeral 32 word.now) result }
 {
     text_of(word)?.parse::<u32>().ok()
 }
 
-pub(crate) fn count_in(word: &[u8]) -> Option<u16>
+pub(crate) fn u16_in(word: &[u8]) -> Option<u16>
     ensures { Parses (Numeral 16 word.now) result }
 {
     text_of(word)?.parse::<u16>().ok()
@@ -131,21 +131,27 @@ fn all_digits(word: &[u8]) -> bool
     word.iter().all(|b| b.is_ascii_digit())
 }
 
-// The text, the number or the place that a text of one word is.
+// The text, or the number, that a text of one word is.
 pub(crate) fn only_text(text: &[u8]) -> Option<&str>
     ensures { MatchOption result ((w : List ℕ) → ¬ (Only text.now w)) (λ w. Only text.now w.now) }
 {
     text_of(only(text)?)
 }
 
-pub(crate) fn only_number(text: &[u8]) -> Option<u64>
+pub(crate) fn only_u64(text: &[u8]) -> Option<u64>
     ensures { Parses (OnlyNumeral 64 text.now) result }
 {
-    number_in(only(text)?)
+    u64_in(only(text)?)
 }
 
-pub(crate) fn only_place(text: &[u8]) -> Option<u32>
+pub(crate) fn only_u32(text: &[u8]) -> Option<u32>
     ensures { Parses (OnlyNumeral 32 text.now) result }
 {
-    place_in(only(text)?)
+    u32_in(only(text)?)
+}
+
+pub(crate) fn only_u16(text: &[u8]) -> Option<u16>
+    ensures { Parses (OnlyNumeral 16 text.now) result }
+{
+    u16_in(only(text)?)
 }

@@ -15,6 +15,10 @@ pub(crate) enum Call {
         number: u64,
         message: Vec<u8>,
     },
+    MakeSlip {
+        number: u64,
+        content: Content,
+    },
     Void {
         number: u64,
     },
@@ -27,6 +31,10 @@ pub(crate) enum Call {
     Unslip {
         bytes: Vec<u8>,
     },
+    ReadSlip {
+        kind: KindOfSlip,
+        bytes: Vec<u8>,
+    },
     NumberAt {
         place: u32,
     },
@@ -37,9 +45,34 @@ impl Call {
     pub(crate) fn room(&self) -> usize {
         match self {
             Call::Seal { .. } | Call::Read { .. } => 1024,
-            Call::Slip { .. } => 48,
-            Call::Unslip { .. } => 15,
+            Call::Slip { .. } | Call::MakeSlip { .. } => 48,
+            Call::Unslip { .. } | Call::ReadSlip { .. } => 15,
             Call::Draw | Call::Void { .. } | Call::Clear { .. } | Call::NumberAt { .. } => 0,
+        }
+    }
+}
+
+#[derive(Clone, Copy, PartialEq, Eq, Debug)]
+pub(crate) enum KindOfSlip {
+    Licence,
+    Loan,
+    Receipt,
+}
+
+// What a slip of a kind says, also outside its range.
+#[derive(Clone, Copy, PartialEq, Eq, Debug)]
+pub(crate) enum Content {
+    Licence { design: u32, copies: u16 },
+    Loan { design: u32, day: u16 },
+    Receipt { cents: u64 },
+}
+
+impl Content {
+    pub(crate) fn kind(&self) -> KindOfSlip {
+        match self {
+            Content::Licence { .. } => KindOfSlip::Licence,
+            Content::Loan { .. } => KindOfSlip::Loan,
+            Content::Receipt { .. } => KindOfSlip::Receipt,
         }
     }
 }
@@ -51,6 +84,7 @@ pub(crate) enum Told {
     Drawn(u64),
     Found(u64, usize),
     Message(usize),
+    Content(Content),
     NumberAt(Option<u64>),
 }
 

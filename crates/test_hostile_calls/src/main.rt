@@ -2,10 +2,12 @@
 
 mod asked;
 mod calls;
+mod contents;
 mod dice;
 mod images;
 mod plain_box;
 mod plain_cipher;
+mod plain_kinds;
 mod plain_modes;
 mod plain_records;
 mod plain_shelf;

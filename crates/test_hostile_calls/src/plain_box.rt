@@ -1,4 +1,5 @@
-use crate::calls::{Answer, Call, Refused, Told};
+use crate::calls::{Answer, Call, Content, KindOfSlip, Refused, Told};
+use crate::plain_kinds::{Message, content_of, message_of};
 use crate::plain_records::{length_of, number_of, opened, sheet, slip, write};
 use crate::plain_shelf::PlainShelf;
 
@@ -17,12 +18,11 @@ pub(crate) struct PlainBox {
 pub(crate) struct Slipped {
     pub(crate) key: [u8; 32],
     pub(crate) bytes: [u8; 48],
-    pub(crate) message: [u8; 15],
-    pub(crate) length: usize,
+    pub(crate) message: Message,
 }
 
 // Layers: modes 1, shelf 2, box 3.
-fn refused(number: u8, layer: u8, place: Option<u32>) -> Answer {
+fn refused<T>(number: u8, layer: u8, place: Option<u32>) -> Result<T, Refused> {
     Err(Refused {
         number,
         layer,
@@ -43,10 +43,12 @@ impl PlainBox {
                 message,
             } => self.seal(*number, *place, label, message, room),
             Call::Slip { number, message } => self.slip(*number, message, room),
+            Call::MakeSlip { number, content } => self.make_slip(*number, content, room),
             Call::Void { number } => self.spend(*number, None),
             Call::Clear { place } => self.clear(*place),
             Call::Read { place } => self.read(*place, room),
             Call::Unslip { bytes } => self.unslip(slips, bytes, room),
+            Call::ReadSlip { kind, bytes } => self.read_slip(slips, *kind, bytes, room),
             Call::NumberAt { place } => self.number_at(*place),
         }
     }
@@ -116,6 +118,16 @@ impl PlainBox {
         Ok(Told::Done)
     }
 
+    fn make_slip(&mut self, number: u64, content: &Content, room: &mut [u8]) -> Answer {
+        if room.len() != 48 {
+            return refused(1, 3, None);
+        }
+        match message_of(content) {
+            Some(message) => self.slip(number, message.bytes(), room),
+            None => refused(15, 3, None),
+        }
+    }
+
     fn clear(&mut self, place: u32) -> Answer {
         if place >= self.shelf.count() {
             return refused(4, 2, Some(place));
@@ -148,13 +160,44 @@ impl PlainBox {
     }
 
     fn unslip(&self, slips: &[Slipped], bytes: &[u8], room: &mut [u8]) -> Answer {
+        let message = self.opened_slip(slips, bytes, room)?;
+        write(room, 0, &message.padded());
+        Ok(Told::Message(message.bytes().len()))
+    }
+
+    fn read_slip(
+        &self,
+        slips: &[Slipped],
+        kind: KindOfSlip,
+        bytes: &[u8],
+        room: &mut [u8],
+    ) -> Answer {
+        let message = self.opened_slip(slips, bytes, room)?;
+        match content_of(kind, message.bytes()) {
+            Some(content) => {
+                write(room, 0, &message.padded());
+                Ok(Told::Content(content))
+            }
+            None => {
+                room.fill(0);
+                refused(16, 3, None)
+            }
+        }
+    }
+
+    // The message of a slip; where it has none, the room becomes what it should hold then.
+    fn opened_slip(
+        &self,
+        slips: &[Slipped],
+        bytes: &[u8],
+        room: &mut [u8],
+    ) -> Result<Message, Refused> {
         if bytes.len() != 48 || room.len() != 15 {
             return refused(1, 3, None);
         }
         for slip in slips {
             if slip.key == self.key && slip.bytes.as_slice() == bytes {
-                write(room, 0, &slip.message);
-                return Ok(Told::Message(slip.length));
+                return Ok(slip.message);
             }
         }
         room.fill(0);

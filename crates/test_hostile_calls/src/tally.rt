@@ -1,4 +1,4 @@
-use crate::calls::{Call, Told};
+use crate::calls::{Call, KindOfSlip, Told};
 use faults::{BoxCause, BoxFault, ModeCause, ShelfCause};
 use std::io;
 
@@ -8,10 +8,12 @@ pub(crate) struct Tally {
     draw: Counts,
     seal: Counts,
     slip: Counts,
+    make: CountsByKind,
     void: Counts,
     clear: Counts,
     read: Counts,
     unslip: Counts,
+    read_slip: CountsByKind,
     number_at: Counts,
 }
 
@@ -22,10 +24,12 @@ impl Tally {
             draw: none,
             seal: none,
             slip: none,
+            make: CountsByKind::new(),
             void: none,
             clear: none,
             read: none,
             unslip: none,
+            read_slip: CountsByKind::new(),
             number_at: none,
         }
     }
@@ -35,10 +39,12 @@ impl Tally {
             Call::Draw => &mut self.draw,
             Call::Seal { .. } => &mut self.seal,
             Call::Slip { .. } => &mut self.slip,
+            Call::MakeSlip { number: _, content } => self.make.of(content.kind()),
             Call::Void { .. } => &mut self.void,
             Call::Clear { .. } => &mut self.clear,
             Call::Read { .. } => &mut self.read,
             Call::Unslip { .. } => &mut self.unslip,
+            Call::ReadSlip { kind, bytes: _ } => self.read_slip.of(*kind),
             Call::NumberAt { .. } => &mut self.number_at,
         };
         match answer {
@@ -52,20 +58,60 @@ impl Tally {
             draw,
             seal,
             slip,
+            make,
             void,
             clear,
             read,
             unslip,
+            read_slip,
             number_at,
         } = self;
         draw.print(rt, "draw")?;
         seal.print(rt, "seal")?;
         slip.print(rt, "slip")?;
+        make.print(rt, "make")?;
         void.print(rt, "void")?;
         clear.print(rt, "clear")?;
         read.print(rt, "read")?;
         unslip.print(rt, "unslip")?;
+        read_slip.print(rt, "read as")?;
         number_at.print(rt, "number")
+    }
+}
+
+// Of a call that takes a kind of slip.
+#[derive(Clone, Copy)]
+struct CountsByKind {
+    licence: Counts,
+    loan: Counts,
+    receipt: Counts,
+}
+
+impl CountsByKind {
+    fn new() -> CountsByKind {
+        let none = Counts::new();
+        CountsByKind {
+            licence: none,
+            loan: none,
+            receipt: none,
+        }
+    }
+
+    fn of(&mut self, kind: KindOfSlip) -> &mut Counts {
+        match kind {
+            KindOfSlip::Licence => &mut self.licence,
+            KindOfSlip::Loan => &mut self.loan,
+            KindOfSlip::Receipt => &mut self.receipt,
+        }
+    }
+
+    fn print(&self, rt: &HostRuntime, name: &str) -> io::Result<()> {
+        print!(rt; "{name} ")?;
+        self.licence.print(rt, "licence")?;
+        print!(rt; "{name} ")?;
+        self.loan.print(rt, "loan")?;
+        print!(rt; "{name} ")?;
+        self.receipt.print(rt, "receipt")
     }
 }
 
@@ -86,6 +132,8 @@ struct Counts {
     tag: u64,
     padding: u64,
     unfit: u64,
+    content: u64,
+    other_kind: u64,
 }
 
 impl Counts {
@@ -105,6 +153,8 @@ impl Counts {
             tag: 0,
             padding: 0,
             unfit: 0,
+            content: 0,
+            other_kind: 0,
         }
     }
 
@@ -129,6 +179,8 @@ impl Counts {
             BoxCause::SixteenOut => &mut self.sixteen_out,
             BoxCause::Empty => &mut self.empty,
             BoxCause::Filling => &mut self.filling,
+            BoxCause::Content => &mut self.content,
+            BoxCause::OtherKind => &mut self.other_kind,
         };
         *count = count.saturating_add(1);
     }
@@ -149,26 +201,29 @@ impl Counts {
             tag,
             padding,
             unfit,
+            content,
+            other_kind,
         } = *self;
         print!(rt; "{name}: {done} done")?;
         let refused = [
-            length,
-            limit,
-            parameter,
-            outside,
-            shut,
-            not_out,
-            used_up,
-            sixteen_out,
-            empty,
-            filling,
-            tag,
-            padding,
-            unfit,
+            (1, length),
+            (2, limit),
+            (3, parameter),
+            (4, outside),
+            (5, shut),
+            (6, not_out),
+            (7, used_up),
+            (8, sixteen_out),
+            (9, empty),
+            (10, filling),
+            (11, tag),
+            (12, padding),
+            (13, unfit),
+            (15, content),
+            (16, other_kind),
         ];
-        for (index, count) in refused.iter().enumerate() {
+        for (number, count) in refused.iter() {
             if *count > 0 {
-                let number = index + 1;
                 print!(rt; ", {count} with {number}")?;
             }
         }

@@ -1,11 +1,12 @@
 use crate::asked::answer;
 use crate::calls::{Call, Refused};
 use crate::dice::Dice;
-use crate::images;
 use crate::plain_box::{PlainBox, Slipped};
+use crate::plain_kinds::{Message, spelt};
 use crate::plain_shelf::{Kind, PlainShelf};
 use crate::tally::Tally;
 use crate::viewed::viewing_is_right;
+use crate::{contents, images};
 use anyhow::anyhow;
 use archive_box::ArchiveBox;
 use box_desk::{Hand, Image};
@@ -190,39 +191,54 @@ impl<'r> Trial<'r> {
 
     // Remembers a slip that was made.
     fn note_slip(&mut self, plain: &PlainBox, call: &Call, room: &[u8]) -> Result<(), AllocError> {
-        let Call::Slip { number: _, message } = call else {
-            return Ok(());
+        let message = match call {
+            Call::Slip { number: _, message } => Message::of(message),
+            Call::MakeSlip { number: _, content } => spelt(content),
+            _ => return Ok(()),
         };
         let Some(bytes) = room.as_array() else {
             return Ok(());
         };
-        let mut padded = [0; 15];
-        crate::plain_records::write(&mut padded, 0, message);
         if self.slips.len() >= 50 {
             self.slips.clear();
         }
         self.slips.push(Slipped {
             key: plain.key,
             bytes: *bytes,
-            message: padded,
-            length: message.len(),
+            message,
         })?;
         Ok(())
     }
 
     // Any call at all.
     fn call(&mut self, plain: &PlainBox) -> Result<Call, AllocError> {
+        let place = self.place(&plain.shelf);
+        Ok(match (self.dice.below(24), self.hand.first()) {
+            (0..=9, Some(number)) => self.spending_call(number, place)?,
+            (10..=12, _) => Call::Read { place },
+            (13, _) => Call::NumberAt { place },
+            (14, _) => Call::Clear { place },
+            (15..=20, _) => self.opening_call()?,
+            _ => Call::Draw,
+        })
+    }
+
+    // Mostly one that the shelf has.
+    fn place(&mut self, shelf: &PlainShelf) -> u32 {
+        match self.dice.below(16) {
+            0 => (self.dice.next() >> 32) as u32,
+            1 => u32::MAX,
+            2 => shelf.count(),
+            _ => self.dice.below(shelf.count().min(6) as usize) as u32,
+        }
+    }
+
+    // A call that takes a number.
+    fn spending_call(&mut self, number: u64, place: u32) -> Result<Call, AllocError> {
         let heap = self.rt.alloc();
         let dice = &mut self.dice;
-        let place = match dice.below(16) {
-            0 => (dice.next() >> 32) as u32,
-            1 => u32::MAX,
-            2 => plain.shelf.count(),
-            _ => dice.below(plain.shelf.count().min(6) as usize) as u32,
-        };
-        let number = self.hand.first();
-        Ok(match (dice.below(16), number) {
-            (0..=4, Some(number)) => {
+        Ok(match dice.below(10) {
+            0..=4 => {
                 let label = dice.length(46);
                 let message = dice.length_up_to(928);
                 Call::Seal {
@@ -232,31 +248,41 @@ impl<'r> Trial<'r> {
                     message: dice.bytes(heap, message)?,
                 }
             }
-            (5 | 6, Some(number)) => {
-                let message = dice.length_up_to(15);
-                Call::Slip {
-                    number,
-                    message: dice.bytes(heap, message)?,
-                }
-            }
-            (7, Some(number)) => Call::Void { number },
-            (8..=10, _) => Call::Read { place },
-            (11, _) => Call::NumberAt { place },
-            (12, _) => Call::Clear { place },
-            (13, _) => Call::Unslip {
-                bytes: self.slip()?,
+            5 | 6 => Call::Slip {
+                number,
+                message: contents::message(dice, heap)?,
             },
-            _ => Call::Draw,
+            7 | 8 => Call::MakeSlip {
+                number,
+                content: contents::content(dice),
+            },
+            _ => Call::Void { number },
         })
     }
 
-    // The bytes of a slip: one that was made, one with a byte changed, or any bytes.
-    fn slip(&mut self) -> Result<Vec<u8>, AllocError> {
+    // A call that opens a slip.
+    fn opening_call(&mut self) -> Result<Call, AllocError> {
+        let slip = self.made_slip();
+        let bytes = self.bytes_of(slip)?;
+        Ok(if self.dice.one_in(3) {
+            Call::Unslip { bytes }
+        } else {
+            let kind = contents::kind_for(&mut self.dice, slip);
+            Call::ReadSlip { kind, bytes }
+        })
+    }
+
+    fn made_slip(&mut self) -> Option<Slipped> {
+        let at = self.dice.below(self.slips.len());
+        self.slips.get(at).copied()
+    }
+
+    // The bytes of a slip, now and then with one changed; any bytes where there is no slip.
+    fn bytes_of(&mut self, slip: Option<Slipped>) -> Result<Vec<u8>, AllocError> {
         let heap = self.rt.alloc();
         let size = self.dice.length(48);
         let mut bytes = self.dice.bytes(heap, size)?;
-        let at = self.dice.below(self.slips.len());
-        if let Some(slip) = self.slips.get(at) {
+        if let Some(slip) = slip {
             crate::plain_records::write(&mut bytes, 0, &slip.bytes);
         }
         if self.dice.one_in(3) {

@@ -1,6 +1,6 @@
-use Rattle.std.proofs.Common.{◌≡◌, List, ℕ, Option, Some, None, Bor, sym, ◌∙◌, ap, subst, arith}
+use Rattle.std.proofs.Common.{◌≡◌, Option, None, sym, ◌∙◌, ap, subst, arith}
 use Rattle.std.specs.Prelude.{IsSome, ◌↔◌}
-use Rattle.script.specs.Names.{call_names, OneOf, NamesCall}
+use Rattle.script.specs.Names.{NamesCall}
 use Rattle.script.specs.Spelling.{name_of}
 use Rattle.script.specs.Words.{first_word, IsText}
 use Rattle.script.proofs.Named.{called_is_text}

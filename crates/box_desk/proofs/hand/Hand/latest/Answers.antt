@@ -1,4 +1,4 @@
-use Rattle.std.proofs.Common.{rules, subst, sym, ◌+◌, arith}
+use Rattle.std.proofs.Common.{rules, subst, sym, ◌+◌}
 use Rattle.std.proofs.lemmas.List.{get_or-map}
 use Rattle.box_desk.specs.Hands.{HasValue}
 use Rattle.box_desk.proofs.Hands.{LatestOf, found, passed_over}

@@ -1,5 +1,5 @@
 use Rattle.script.proofs.Texts.{numeral_is_text}
-use Rattle.script.proofs.words.count_in.Goals as goal
+use Rattle.script.proofs.words.u16_in.Goals as goal
 
 pub returns-in_err-text_of : goal.returns-in_err-text_of
 returns-in_err-text_of c = rw c.from_residual.ensures (λ n h. c.in_err-text_of.ensures (numeral_is_text 16 c.args.word.now n h))
