@@ -1,6 +1,6 @@
 -- Cases that are settled: what the definitions must give.
-use Rattle.std.specs.Prelude.{◌≡◌, ℕ, suc, List, [], ◌∷◌, ◌++◌, map, cond, eqb, length, Some, Ok}
-use Rattle.std.specs.Prelude.{Err, Result}
+use Rattle.std.specs.Prelude.{◌≡◌, ℕ, suc, List, [], ◌∷◌, ◌++◌, map, cond, eqb, length, Some}
+use Rattle.std.specs.Prelude.{None, Ok, Err, Result}
 use Rattle.faults.specs.Causes.{entry, from_mode, from_shelf}
 use Rattle.faults.specs.Tables.{Table, Clear, Checks}
 use Rattle.faults.specs.declared.ShelfFault.{ShelfFault}
@@ -15,6 +15,7 @@ use Rattle.modes.specs.Cascade.{cascade_table, CascadeSeals}
 use Rattle.modes.specs.Counters.{counter_block}
 use Rattle.shelf.specs.Meaning.{Open}
 use Rattle.plate.specs.Plates.{cells, mark, Fit, fit_table, last_cell, plate}
+use Rattle.trade_slips.specs.Trade.{licence, loan, receipt}
 use Rattle.box_model.specs.States.{Made, State}
 use Rattle.box_model.specs.Calls.{Draws, seal_table, Seals, slip_table, Slips}
 
@@ -88,13 +89,30 @@ pub record Settled : Type 0 where
       (λ message answer. Seals made s number place label message buffer answer buffer' t)
   pub slip_15 : (made : Made) (s t : State) (number : ℕ) (buffer buffer' : List ℕ)
       → TakesAtMost (λ fault. fault) 15
-      (λ message. slip_table made s number message buffer)
-      (λ message answer. Slips made s number message buffer answer buffer' t)
+      (λ message. slip_table made s number (Some message) buffer)
+      (λ message answer. Slips made s number (Some message) buffer answer buffer' t)
   pub nonce_20 : (f : BlockFunction) (key associated message out sign out' sign' : List ℕ)
       → TakesAtMost from_mode 20
       (λ nonce. cascade_table (length key) (length nonce) (length associated) (length message)
       (length out) (length sign))
       (λ nonce answer. CascadeSeals f key nonce associated message out sign answer out' sign')
+  -- the message of the last licence, loan and receipt that is taken
+  pub last_licence : licence (record { design = 99999999; copies = 999 })
+      ≡ Some (1 ∷ 5 ∷ 245 ∷ 224 ∷ 255 ∷ 3 ∷ 231 ∷ [])
+  pub last_loan : loan (record { design = 1; day = 36600 })
+      ≡ Some (2 ∷ 0 ∷ 0 ∷ 0 ∷ 1 ∷ 142 ∷ 248 ∷ [])
+  pub last_receipt : receipt (record { cents = 1000000000000 })
+      ≡ Some (3 ∷ 0 ∷ 0 ∷ 0 ∷ 232 ∷ 212 ∷ 165 ∷ 16 ∷ 0 ∷ [])
+  -- a number just below its least, or just above its greatest, has none
+  pub designs : map (λ n. licence (record { design = n; copies = 1 })) (0 ∷ 100000000 ∷ [])
+      ≡ None ∷ None ∷ []
+  pub designs_lent : map (λ n. loan (record { design = n; day = 1 })) (0 ∷ 100000000 ∷ [])
+      ≡ None ∷ None ∷ []
+  pub copies : map (λ n. licence (record { design = 1; copies = n })) (0 ∷ 1000 ∷ [])
+      ≡ None ∷ None ∷ []
+  pub days : map (λ n. loan (record { design = 1; day = n })) (0 ∷ 36601 ∷ [])
+      ≡ None ∷ None ∷ []
+  pub cents : receipt (record { cents = 1000000000001 }) ≡ None
   -- after 999,999,999 a draw gets 7
   pub used_up : (made : Made) (s t u : State) (answer : Result ℕ BoxFault)
       → Draws made s (Ok 999999999) t → Draws made t answer u

@@ -1,10 +1,12 @@
-use Rattle.std.proofs.Common.{◌≡◌, ℕ, List, None, Ok, Err, Result, refl, ap, arith}
+use Rattle.std.proofs.Common.{◌≡◌, ℕ, List, None, Ok, Err, Result, sym, refl, ap, arith}
+use Rattle.std.proofs.lemmas.Option.{none-some}
 use Rattle.faults.specs.Causes.{entry, from_shelf, shelf_fault}
 use Rattle.faults.specs.Tables.{Not, Clear, Checks}
 use Rattle.faults.specs.declared.ShelfCause.TheVariants.{Unfit}
 use Rattle.faults.specs.declared.ShelfFault.{ShelfFault}
 use Rattle.saturnin.specs.Bits.{bit, nibble}
 use Rattle.octets.specs.Lists.{table}
+use Rattle.octets.specs.Octets.{big_endian}
 use Rattle.saturnin.specs.Cube.{register, word}
 use Rattle.saturnin.specs.Layers.{σ₀, σ₁, SR_slice, SR_sheet, SR, α, ⊕, M_row}
 use Rattle.saturnin.specs.Rounds.{clock, rotated}
@@ -23,7 +25,7 @@ unfit memory places gone (Ok x) b = absurd (b.0 gone)
 unfit memory places gone (Err fault) b = (fault, refl, b.0 gone)
 
 pub returns : goal.returns
-unfolding bit nibble table register word σ₀ σ₁ SR_slice SR_sheet SR α ⊕ M_row clock rotated
+unfolding big_endian bit nibble table register word σ₀ σ₁ SR_slice SR_sheet SR α ⊕ M_row clock rotated
 returns c = record {
   start_10_1 = refl;
   start_16_7 = refl;
@@ -50,13 +52,21 @@ returns c = record {
     λ e. (_, ((b.1 c.0).0 (omega (arith, e))).0, refl),
   );
   slip_15 = λ made s t number buffer buffer' message answer c b. (
-    λ e. (((b.1 c.0).1 (λ l. omega (arith, l, e))).1 c.1.1.0).0,
+    λ e. ((((b.1 c.0).1 (λ l. omega (arith, l, e))).1 (λ n. none-some message (sym n))).1 c.1.1.1.0).2,
     λ e. (_, ((b.1 c.0).0 (omega (arith, e))).0, refl),
   );
   nonce_20 = λ f key associated message out sign out' sign' nonce answer c b. (
     λ e. ((b.1 c.0).1 (λ n. c.1.0 (λ h. n (omega (arith, e), h.1, h.2)))).0,
     λ e. (_, ((b.1 c.0).0 (λ h. omega (arith, h.0, e))).0, refl),
   );
+  last_licence = refl;
+  last_loan = refl;
+  last_receipt = refl;
+  designs = refl;
+  designs_lent = refl;
+  copies = refl;
+  days = refl;
+  cents = refl;
   used_up = λ made s t u answer first then.
       let begins = (draw_turn made s t _ first).0 in
       (_, (then.0 (omega (arith, begins.next, begins.is_next))).0, refl);
