@@ -28,8 +28,8 @@ abbrev pub receipt : Receipt → Option (List ℕ)
 receipt c = message 3 (receipt_fields c)
 
 -- a licence and a loan are laid out alike: a design, and a number from 1 to the greatest
-abbrev pub design_fields : (greatest : ℕ) → (ℕ × ℕ) → List Field
-design_fields greatest (n, m) = design n ∷ field m 1 greatest 2 ∷ []
+abbrev pub design_fields : (greatest n m : ℕ) → List Field
+design_fields greatest n m = design n ∷ field m 1 greatest 2 ∷ []
 
-abbrev pub of_design : (kind greatest : ℕ) → (ℕ × ℕ) → Option (List ℕ)
-of_design kind greatest p = message kind (design_fields greatest p)
+abbrev pub of_design : (kind greatest n m : ℕ) → Option (List ℕ)
+of_design kind greatest n m = message kind (design_fields greatest n m)

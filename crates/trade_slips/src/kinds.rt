@@ -68,21 +68,25 @@ impl SlipKind for Receipts {
 
     ghost writes = { receipt };
 
+    #[tactic(auto, using(crate::proofs::Messages::bytes))]
     fn write(receipt: &Receipt) -> Option<ArrayVec<u8, 15>> {
         if receipt.cents > MOST_CENTS {
             return None;
         }
         let [a, b, c, d, e, f, g, h] = receipt.cents.to_be_bytes();
-        ArrayVec::try_from(&[RECEIPT, a, b, c, d, e, f, g, h][..]).ok()
+        Some(ArrayVec::try_from(&[RECEIPT, a, b, c, d, e, f, g, h][..]).unwrap())
     }
 
-    #[tactic(auto, using(crate::proofs::Messages::forms))]
+    #[tactic(auto, using(crate::proofs::Messages::reads))]
     fn read(message: &[u8]) -> Option<Receipt> {
         let &[RECEIPT, a, b, c, d, e, f, g, h] = message else {
             return None;
         };
         let cents = u64::from_be_bytes([a, b, c, d, e, f, g, h]);
-        (cents <= MOST_CENTS).then_some(Receipt { cents })
+        if cents > MOST_CENTS {
+            return None;
+        }
+        Some(Receipt { cents })
     }
 
     ghost is_kind = { kind_of_fields 3 receipt_fields
