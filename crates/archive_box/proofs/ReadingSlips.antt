@@ -47,10 +47,10 @@ module _ (made : Made) (s : State) {Content : Type 0} (writes : Content → Opti
     of_a_content content e =
         reads (Ok content) mid (λ f b m. absurd (never_both n f (sym a ∙ b)))
         (λ message held b m.
-            let writes_it : writes content ≡ Some message = e ∙ ap Some (front n message a b m) in (
-              λ h. absurd (h (content, message, (held, writes_it))),
-              λ h. (content, message, (held, writes_it), refl, m),
-            ))
+        let writes_it : writes content ≡ Some message = e ∙ ap Some (front n message a b m) in (
+          λ h. absurd (h (content, message, (held, writes_it))),
+          λ h. (content, message, (held, writes_it), refl, m),
+        ))
 
     pub of_no_content : ((c : Content) → Not (writes c ≡ Some (take n mid))) → (result : Result Content BoxFault) (buffer' : List ℕ)
         → result ≡ Err (box_fault None OtherKind) → buffer' ≡ zeros (length buffer) → ReadsSlip made s writes bytes buffer result buffer'
