@@ -12,7 +12,8 @@ use Rattle.slip_kinds.specs.Fields.{in_range, bytes_of}
 use Rattle.slip_kinds.specs.Kinds.{ReadsBack}
 use Rattle.slip_kinds.proofs.Fields.{numbers_in, begins, length-message, read_back}
 use Rattle.test_kinds.specs.declared.remakes.Remake.{Remake}
-use Rattle.test_kinds.specs.Remakes.{remake_fields, remake, of_numbers, given}
+use Rattle.test_kinds.specs.Remakes.{remake_fields, remake}
+use Rattle.test_kinds.specs.Numbers.{of_numbers, given}
 
 bit_below : (b : Bool) → from_bool b < 2
 bit_below true = omega arith

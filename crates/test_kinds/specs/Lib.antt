@@ -1,1 +1,2 @@
 pub mod Remakes
+pub mod Numbers

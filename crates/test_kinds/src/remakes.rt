@@ -2,7 +2,8 @@ ghost use Rattle.std.specs.Prelude.{◌≡◌, refl};
 ghost use Rattle.std.specs.List.{list_all};
 ghost use Rattle.slip_kinds.specs.Fields.{in_range};
 ghost use Rattle.slip_kinds.proofs.Fields.{kind_of_fields};
-ghost use Rattle.test_kinds.specs.Remakes.{remake as remake_of, remake_fields, of_numbers, given};
+ghost use Rattle.test_kinds.specs.Remakes.{remake as remake_of, remake_fields};
+ghost use Rattle.test_kinds.specs.Numbers.{of_numbers, given};
 
 use arrayvec::ArrayVec;
 use slip_kinds::SlipKind;
