@@ -63,8 +63,8 @@ impl<C: TwoWayCipher, S: Shelf> ArchiveBox<C, S> {
         ensures back { IfErr result (λ r. r.number ≡ number) }
         ensures shelf { self.new.shelf ≡ self.old.shelf }
         ensures slips { Turns C.Cipher.forward C.TwoWayCipher.back S.Shelf.meaning
-            (λ made s. Slips made s number.value (option_copied message.entry) bytes.old (fault_of result)
-            bytes.new)
+            (λ made s. Slips made s number.value (option_copied message.entry) bytes.old
+            (fault_of result) bytes.new)
             self.old self.new }
     {
         match self.slipped(number.value, message, bytes) {
@@ -124,8 +124,8 @@ impl<C: TwoWayCipher, S: Shelf> ArchiveBox<C, S> {
 
     /// The reader of slips of every kind: opens a slip of 48 bytes into a buffer of 15, as `unslip`
     /// does, and gives the content. Refused with 1 for another length of either; with 12 where the
-    /// slip was not made under this key, and 16 where the kind cannot have written its message: the
-    /// buffer is then zero.
+    /// slip does not open, and 16 where the kind cannot have written its message: the buffer is then
+    /// zero.
     pub fn read_slip<K: SlipKind>(
         &self,
         bytes: &[u8],
