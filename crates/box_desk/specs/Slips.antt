@@ -9,15 +9,16 @@ use Rattle.box_desk.specs.declared.answers.Answer.TheVariants.{Slip}
 use Rattle.box_desk.specs.declared.problems.Problem.{Problem}
 use Rattle.box_desk.specs.declared.problems.Problem.TheVariants.{Memory, Refused}
 
--- a done making tells the slip that the box made, and the number is spent; a refused number comes
--- back, last in hand, or is ended where there is no memory for it
-abbrev pub MakesSlip : (makes : (bytes : List ℕ) → Type 0) → Number → (hand hand' : List Number)
-    → Result Answer Problem → Type 0
-MakesSlip makes number hand hand' (Ok answer) =
+-- where the box is done, its slip is told, and the number is spent; a number that the box refuses
+-- comes back, last in hand, or is ended where there is no memory for it
+abbrev pub MakesSlip : (makes : (bytes : List ℕ) → Type 0) (refuses : BoxFault → Type 0)
+    → Number → (hand hand' : List Number) → Result Answer Problem → Type 0
+MakesSlip makes refuses number hand hand' (Ok answer) =
     ((bytes : List ℕ) × makes bytes × (answer ≡ Slip bytes)) × (hand' ≡ hand)
-MakesSlip makes number hand hand' (Err problem) =
-    (((fault : BoxFault) × (problem ≡ Refused fault)) × (hand' ≡ hand ++ number ∷ []))
-    ⊎ ((problem ≡ Memory) × (hand' ≡ hand))
+MakesSlip makes refuses number hand hand' (Err problem) =
+    ((fault : BoxFault) × refuses fault
+    × (((problem ≡ Refused fault) × (hand' ≡ hand ++ number ∷ []))
+    ⊎ ((problem ≡ Memory) × (hand' ≡ hand))))
 
 -- an answer of the box as it is told
 abbrev pub told : {Content : Type 0} → Result Content BoxFault → Result Content Problem

@@ -102,15 +102,21 @@ pub(crate) fn make_slip<K: SlipKind, C: TwoWayCipher, S: Shelf>(
     number: Number,
     content: &K::Content,
 ) -> Result<Answer, Problem>
-    ensures { MakesSlip
+    ensures { let none = replicate 48 0 in
+        MakesSlip
         (λ bytes. Turns C.Cipher.forward C.TwoWayCipher.back S.Shelf.meaning
-        (λ made s. Slips made s number.value (K.writes content.now) (replicate 48 0) (Ok tt) bytes)
+        (λ made s. Slips made s number.value (K.writes content.now) none (Ok tt) bytes)
         asked.old asked.new)
+        (λ fault. Tells C.Cipher.forward C.TwoWayCipher.back S.Shelf.meaning
+        (λ made s. Slips made s number.value (K.writes content.now) none (Err fault) none s)
+        asked.old)
         number hand.old.numbers.items hand.new.numbers.items result }
 {
     let mut bytes = [0; 48];
-    let made = asked.make_slip::<K>(number, content, &mut bytes);
-    spent(asked, hand, made.map(|()| Answer::Slip(bytes)))
+    match asked.make_slip::<K>(number, content, &mut bytes) {
+        Ok(()) => Ok(Answer::Slip(bytes)),
+        Err(refusal) => spent(asked, hand, Err(refusal)),
+    }
 }
 
 // What a slip of a kind says.
